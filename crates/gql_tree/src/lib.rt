@@ -3,12 +3,23 @@
 
 mod bytes;
 mod copy;
+mod delivery;
+mod fields;
 mod listed;
 mod memory;
+mod path;
 mod text;
+mod value;
 
 pub use bytes::Bytes;
 pub use copy::TryCopy;
+pub use delivery::{
+    Asked, Completed, Content, Detail, Entry, Failure, Fault, Frag, FragId, Group, Occurrence,
+    Outcome, Payload, Pending, RegionResult, Row, Spot, Stream, Task, TaskWork,
+};
+pub use fields::{Fields, Named};
 pub use listed::Listed;
 pub use memory::NoMemory;
+pub use path::{Key, Path};
 pub use text::Text;
+pub use value::{Member, Value};

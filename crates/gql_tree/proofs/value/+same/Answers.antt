@@ -1,0 +1,12 @@
+use Rattle.std.proofs.Common.{◌≡◌, rules, ap, arith}
+use Rattle.gql_tree.proofs.Same.{same_from_layer, layer_from_same, same_length, value_of_items}
+use Rattle.gql_tree.proofs.value.+same.Goals as goal
+
+pub Value::same-returns : goal.Value::same-returns
+Value::same-returns t c = (λ r. same_from_layer _ _ (c.same_layer.ensures.same.0 r), λ s. c.same_layer.ensures.same.1 (layer_from_same _ _ c.same_layer.ensures.apart s))
+
+pub Value::same_layer-returns-in-List-other-clause-same : goal.Value::same_layer-returns-in-List-other-clause-same
+Value::same_layer-returns-in-List-other-clause-same t c = value_of_items _ _ c.in-List.items c.in-List-other.second _ c.in-List.is c.in-List-other.is (rw (← c.as_slice.ensures, ← c.as_slice-in-List-other.ensures) c.same_items.ensures)
+
+pub same_items-returns-then-first-second : goal.same_items-returns-then-first-second
+same_items-returns-then-first-second t c = (λ f. absurd (cc), λ s. absurd (c.if-first-second.true (same_length _ _ s)))

@@ -1,0 +1,87 @@
+//! Named values, no name twice.
+
+ghost use Rattle.std.specs.Prelude.{◌≡◌, ◌↔◌, [], ◌∷◌, ◌++◌, true, false, IsTrue, OnOk, OnErr};
+ghost use Rattle.std.specs.Option.{option_copied};
+ghost use Rattle.gql_tree.specs.Names.{has_name, apart, named};
+
+use crate::{NoMemory, Text};
+use std::alloc::Global;
+use std::marker::Model;
+
+/// A value with its name, as a member of a JSON object.
+#[derive(Debug, Drop)]
+pub struct Named<T> {
+    pub name: Text,
+    pub value: T,
+}
+
+/// Named values in their order, no name twice: the members of an object.
+///
+/// Contracts see the list of the members, and that their names are apart is a fact of the type.
+#[derive(Debug, Drop)]
+pub struct Fields<T> {
+    items: Vec<Named<T>>,
+}
+
+impl<T> Model for Fields<T> {
+    ghost use Rattle.std.specs.Prelude.{List, IsTrue};
+    ghost use Rattle.std.specs.Coded.{codes};
+    ghost use Rattle.gql_tree.specs.declared.fields.Named.{Named};
+    ghost use Rattle.gql_tree.specs.Names.{apart};
+
+    ghost Value = { List (Named T) };
+
+    ghost view = { λ a. a.items.items };
+
+    ghost invariant = { λ a. IsTrue (apart a.items.items) };
+}
+
+impl<T> Fields<T> {
+    pub fn new(alloc: Global) -> Self
+        ensures { result ≡ [] }
+    {
+        Fields {
+            items: Vec::new(alloc),
+        }
+    }
+
+    /// No members, with the allocator of this object.
+    pub fn empty_like(&self) -> Self
+        ensures { result ≡ [] }
+    {
+        Fields {
+            items: Vec::new(*self.items.allocator()),
+        }
+    }
+
+    pub fn as_slice(&self) -> &[Named<T>]
+        ensures now { result.now ≡ self.now }
+        ensures apart { IsTrue (apart self.now) }
+    {
+        self.items.as_slice()
+    }
+
+    /// The value of this name.
+    pub fn get(&self, name: &str) -> Option<&T>
+        ensures { option_copied result ≡ named name.now self.now }
+    {
+        for member in self.items.as_slice() {
+            if member.name.as_str() == name {
+                return Some(&member.value);
+            }
+        }
+        None
+    }
+}
+
+impl<T: Drop> Fields<T> {
+    /// Adds a member whose name is none of the object's.
+    pub fn push(&mut self, name: Text, value: T) -> Result<(), NoMemory>
+        requires { has_name name self.old ≡ false }
+        ensures ok { OnOk result (self.new ≡ self.old ++ record { name = name; value = value } ∷ []) }
+        ensures err { OnErr result (self.new ≡ self.old) }
+    {
+        self.items.push(Named { name, value })?;
+        Ok(())
+    }
+}
