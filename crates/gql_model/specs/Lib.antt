@@ -1,0 +1,14 @@
+pub mod Lists
+pub mod Shape
+pub mod World
+pub mod Tables
+pub mod Lawful
+pub mod Collect
+pub mod Owners
+pub mod Complete
+pub mod Objects
+pub mod Region
+pub mod Operations
+pub mod Depth
+pub mod Sample
+pub mod Worked

@@ -1,0 +1,64 @@
+use gql_tree::{Listed, Text, Value};
+
+/// A type by its place among the types of its schema, from 0.
+#[derive(Clone, Copy, Debug, PartialEq, Eq)]
+pub struct TypeNo {
+    pub number: u32,
+}
+
+/// A type as a field, an argument or a variable uses it (section 3.11 and 3.12 of the standard).
+#[derive(Debug, Drop)]
+pub enum TypeUse {
+    Named(TypeNo),
+    List(Box<TypeUse>),
+    NonNull(Box<TypeUse>),
+}
+
+#[derive(Clone, Copy, Debug, PartialEq, Eq)]
+pub enum TypeKind {
+    Scalar,
+    Object,
+    Interface,
+    Union,
+    Enum,
+    Input,
+}
+
+/// An argument of a field, or a field of an input object.
+#[derive(Debug, Drop)]
+pub struct InputDef {
+    pub name: Text,
+    pub kind: TypeUse,
+    pub default: Option<Value>,
+}
+
+#[derive(Debug, Drop)]
+pub struct FieldDef {
+    pub name: Text,
+    pub arguments: Listed<InputDef>,
+    pub kind: TypeUse,
+}
+
+/// A named type. Lists that its kind doesn't have are empty.
+#[derive(Debug, Drop)]
+pub struct TypeDef {
+    pub name: Text,
+    pub kind: TypeKind,
+    pub fields: Listed<FieldDef>,
+    pub inputs: Listed<InputDef>,
+    pub interfaces: Listed<TypeNo>,
+    /// The object types that a value of this type may have: those of a union or an interface,
+    /// and of an object type itself.
+    pub members: Listed<TypeNo>,
+    /// The values of an enum.
+    pub values: Listed<Text>,
+}
+
+/// The types of a service, the built-in scalars among them, and its root types.
+#[derive(Debug, Drop)]
+pub struct Schema {
+    pub types: Listed<TypeDef>,
+    pub query: TypeNo,
+    pub mutation: Option<TypeNo>,
+    pub subscription: Option<TypeNo>,
+}
