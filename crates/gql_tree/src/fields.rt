@@ -1,8 +1,9 @@
 //! Named values, no name twice.
 
-ghost use Rattle.std.specs.Prelude.{◌≡◌, ◌↔◌, [], ◌∷◌, ◌++◌, true, false, IsTrue, OnOk, OnErr};
+ghost use Rattle.std.specs.Prelude.{◌≡◌, ◌↔◌, [], ◌∷◌, ◌++◌, false, position, IsTrue, OnOk, OnErr};
 ghost use Rattle.std.specs.Option.{option_copied};
-ghost use Rattle.gql_tree.specs.Names.{has_name, apart, named};
+ghost use Rattle.std.specs.Str.{bytes_eq};
+ghost use Rattle.gql_tree.specs.Names.{has_name, apart, named, put_named};
 
 use crate::{NoMemory, Text};
 use std::alloc::Global;
@@ -84,4 +85,26 @@ impl<T: Drop> Fields<T> {
         self.items.push(Named { name, value })?;
         Ok(())
     }
+    /// Puts a value under a name: in place of the one that has it, else at the end.
+    pub fn insert(&mut self, name: Text, value: T) -> Result<(), NoMemory>
+        ensures ok { OnOk result (self.new ≡ put_named name value self.old) }
+        ensures err { OnErr result (self.new ≡ self.old) }
+    {
+        match place_of(self.items.as_slice(), name.as_str()) {
+            Some(at) => {
+                self.items[at].value = value;
+                Ok(())
+            }
+            None => self.push(name, value),
+        }
+    }
+}
+
+/// Where the member of a name stands.
+fn place_of<T>(members: &[Named<T>], name: &str) -> Option<usize>
+    ensures { result ≡ position (λ member. bytes_eq member.name name.now) members.now }
+{
+    members
+        .iter()
+        .position(|member| member.name.as_str() == name)
 }

@@ -8,6 +8,7 @@ mod fields;
 mod listed;
 mod memory;
 mod path;
+mod shared;
 mod text;
 mod value;
 
@@ -21,5 +22,6 @@ pub use fields::{Fields, Named};
 pub use listed::Listed;
 pub use memory::NoMemory;
 pub use path::{Key, Path};
+pub use shared::types_may_be_shared;
 pub use text::Text;
 pub use value::{Member, Value};
