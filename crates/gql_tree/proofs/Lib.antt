@@ -1,3 +1,6 @@
 pub mod Names
 pub mod Same
 mod Order
+pub mod Json
+pub mod Finite
+mod Texts

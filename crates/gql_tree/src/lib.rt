@@ -1,10 +1,12 @@
 //! Values, paths, and what regions and payloads hold.
 #![tactic(auto)]
 
+mod as_json;
 mod bytes;
 mod copy;
 mod delivery;
 mod fields;
+mod laws;
 mod listed;
 mod memory;
 mod path;
@@ -19,6 +21,7 @@ pub use delivery::{
     Outcome, Payload, Pending, RegionResult, Row, Spot, Stream, Task, TaskWork,
 };
 pub use fields::{Fields, Named};
+pub use laws::{flat_is_finite, payload_texts};
 pub use listed::Listed;
 pub use memory::NoMemory;
 pub use path::{Key, Path};

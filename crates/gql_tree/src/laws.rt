@@ -1,0 +1,24 @@
+//! Laws of the definitions, each the contract of a function that does nothing.
+
+ghost use Rattle.std.specs.Prelude.{◌≡◌, length, [], ◌∷◌, codes};
+ghost use Rattle.gql_tree.specs.Finite.{IsFinite};
+ghost use Rattle.gql_tree.specs.Frame.{frame};
+ghost use Rattle.gql_tree.specs.PayloadText.{payload_text};
+ghost use Rattle.gql_tree.specs.Samples.{announced, delivered, failed, continued};
+
+use crate::Value;
+
+/// A value has a mark at finitely many paths.
+pub fn flat_is_finite(value: &Value)
+    ensures { IsFinite value.now }
+{}
+
+/// The texts of some payloads, and the lengths of multipart bodies.
+pub fn payload_texts()
+    ensures announced { payload_text announced ≡ codes "{\"data\":{\"hero\":{\"id\":\"1\"}},\"hasNext\":true,\"pending\":[{\"id\":\"0\",\"label\":\"D\",\"path\":[\"hero\"]}]}" }
+    ensures delivered { payload_text delivered ≡ codes "{\"completed\":[{\"id\":\"0\"}],\"hasNext\":false,\"incremental\":[{\"data\":{\"name\":\"Luke\"},\"id\":\"0\"}]}" }
+    ensures failed { payload_text failed ≡ codes "{\"data\":{\"hero\":null},\"errors\":[{\"locations\":[{\"column\":13,\"line\":1}],\"message\":\"bang\",\"path\":[\"hero\",\"boom\"]}]}" }
+    ensures continued { payload_text continued ≡ codes "{\"hasNext\":true,\"incremental\":[{\"data\":{\"name\":\"Luke\"},\"id\":\"0\",\"subPath\":[\"hero\"]},{\"id\":\"1\",\"items\":[]}]}" }
+    ensures one_piece { length (frame (codes "{\"data\":{\"hero\":{\"id\":\"1\"}}}" ∷ [])) ≡ 91 }
+    ensures two_pieces { length (frame (payload_text announced ∷ payload_text delivered ∷ [])) ≡ 305 }
+{}
