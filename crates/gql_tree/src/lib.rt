@@ -11,6 +11,8 @@ mod listed;
 mod memory;
 mod path;
 mod shared;
+#[cfg(test)]
+mod tests;
 mod text;
 mod value;
 
