@@ -1,0 +1,84 @@
+ghost use Rattle.std.specs.Prelude.{◌≡◌, ◌↔◌, ◌+◌, ◌-◌, ◌^◌, min, Some, option_map, find, bytes_eq, Contains, IsErr};
+ghost use Rattle.gql_io.specs.Faults.{Counts};
+ghost use Rattle.gql_io.specs.MemoryShelf.{bytes_under, files_of, faults_of};
+
+use crate::{Failed, Shelf, ShelfRefusal};
+use gql_tree::{Bytes, Text};
+use std::alloc::Global;
+
+/// A file of a shelf in memory.
+#[derive(Debug, Drop)]
+pub struct ShelfFile {
+    pub name: Text,
+    pub bytes: Bytes,
+}
+
+/// A shelf in memory, which fails at calls of its choice.
+#[derive(Debug, Drop)]
+pub struct MemoryShelf {
+    files: Vec<ShelfFile>,
+    failing: Vec<u64>,
+    calls: u64,
+    faults: u64,
+}
+
+impl MemoryShelf {
+    /// A shelf with these files, of which the first counts where two have one
+    /// name, and with the numbers of the calls that fail, counted from 0.
+    pub fn new(files: Vec<ShelfFile>, failing: Vec<u64>) -> Self
+        ensures files { files_of result ≡ Some (bytes_under files.items) }
+        ensures faults { faults_of result ≡ 0 }
+    {
+        MemoryShelf {
+            files,
+            failing,
+            calls: 0,
+            faults: 0,
+        }
+    }
+
+    /// How often the shelf has failed.
+    pub fn faults(&self) -> u64
+        ensures { result ≡ faults_of self.now }
+    {
+        self.faults
+    }
+
+    /// Counts a call, and a fault where it is one that fails.
+    fn begin_call(&mut self) -> Result<(), Failed>
+        ensures fails { IsErr result ↔ Contains self.old.failing.items self.old.calls }
+        ensures counted { self.new.calls ≡ min (self.old.calls + 1) (2 ^ 64 - 1) }
+        ensures cause { Counts (faults_of self.old) (faults_of self.new) (IsErr result) }
+        ensures same { (self.new.files ≡ self.old.files) × (self.new.failing ≡ self.old.failing) }
+    {
+        let failing = self.failing.as_slice().contains(&self.calls);
+        self.calls = self.calls.saturating_add(1);
+        if failing {
+            self.faults = self.faults.saturating_add(1);
+            return Err(Failed);
+        }
+        Ok(())
+    }
+}
+
+/// The first file of a name.
+fn file_under<'a>(files: &'a [ShelfFile], name: &str) -> Option<&'a ShelfFile>
+    ensures { option_map (λ file. file.now) result ≡ find (λ file. bytes_eq file.name name.now) files.now }
+{
+    files.iter().find(|file| file.name.as_str() == name)
+}
+
+impl Shelf for MemoryShelf {
+    ghost files = { files_of };
+
+    ghost faults = { faults_of };
+
+    fn read(&mut self, alloc: Global, name: &str, most: u64) -> Result<Bytes, ShelfRefusal> {
+        self.begin_call()?;
+        match file_under(self.files.as_slice(), name) {
+            None => Err(ShelfRefusal::Missing),
+            Some(file) if file.bytes.as_slice().len() as u64 > most => Err(ShelfRefusal::TooLong),
+            Some(file) => Ok(Bytes::copy_of(alloc, file.bytes.as_slice())?),
+        }
+    }
+}

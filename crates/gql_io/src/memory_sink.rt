@@ -1,0 +1,85 @@
+ghost use Rattle.std.specs.Prelude.{◌≡◌, ◌+◌, ◌-◌, ◌^◌, min, [], Some};
+ghost use Rattle.gql_io.specs.MemorySink.{sent_of, faults_of, taken_at};
+
+use crate::{Failed, Sink};
+use std::alloc::Global;
+
+/// A call of a sink in memory that fails.
+#[derive(Clone, Copy, Debug, PartialEq, Eq)]
+pub struct SinkFault {
+    /// The number of the call, counted from 0.
+    pub call: u64,
+    /// How many bytes of its piece the call still takes; all of a piece that
+    /// has no more.
+    pub taken: usize,
+}
+
+/// A sink in memory, which fails at calls of its choice and where it has no
+/// memory for a piece.
+#[derive(Debug, Drop)]
+pub struct MemorySink {
+    sent: Vec<u8>,
+    failing: Vec<SinkFault>,
+    calls: u64,
+    faults: u64,
+}
+
+impl MemorySink {
+    /// A sink that was sent nothing, with the calls that fail; the first counts
+    /// where two have one number.
+    pub fn new(alloc: Global, failing: Vec<SinkFault>) -> Self
+        ensures sent { sent_of result ≡ Some [] }
+        ensures faults { faults_of result ≡ 0 }
+    {
+        MemorySink {
+            sent: Vec::new(alloc),
+            failing,
+            calls: 0,
+            faults: 0,
+        }
+    }
+
+    /// All that was sent so far.
+    pub fn sent(&self) -> &[u8]
+        ensures { sent_of self.now ≡ Some result.now }
+    {
+        self.sent.as_slice()
+    }
+
+    /// How often the sink has failed.
+    pub fn faults(&self) -> u64
+        ensures { result ≡ faults_of self.now }
+    {
+        self.faults
+    }
+
+    /// Counts a call, and tells how many bytes it takes where it is one that
+    /// fails.
+    fn begin_call(&mut self) -> Option<usize>
+        ensures taken { result ≡ taken_at self.old.failing.items self.old.calls }
+        ensures counted { self.new ≡ record self.old { calls = min (self.old.calls + 1) (2 ^ 64 - 1) } }
+    {
+        let call = self.calls;
+        self.calls = call.saturating_add(1);
+        self.failing
+            .iter()
+            .find(|fault| fault.call == call)
+            .map(|fault| fault.taken)
+    }
+}
+
+impl Sink for MemorySink {
+    ghost sent = { sent_of };
+
+    ghost faults = { faults_of };
+
+    fn put(&mut self, piece: &[u8]) -> Result<(), Failed> {
+        let fault = self.begin_call();
+        let taken = fault.unwrap_or(piece.len()).min(piece.len());
+        if self.sent.extend_from_slice(&piece[..taken]).is_err() || fault.is_some() {
+            self.faults = self.faults.saturating_add(1);
+            return Err(Failed);
+        }
+        Ok(())
+    }
+}
