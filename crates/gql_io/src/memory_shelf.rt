@@ -82,3 +82,44 @@ impl Shelf for MemoryShelf {
         }
     }
 }
+
+#[cfg(test)]
+mod tests {
+    use super::*;
+    use std::test::Fail;
+
+    fn file(alloc: Global, name: &str, bytes: &[u8]) -> Result<ShelfFile, ShelfRefusal> {
+        Ok(ShelfFile {
+            name: Text::copy_of(alloc, name)?,
+            bytes: Bytes::copy_of(alloc, bytes)?,
+        })
+    }
+
+    #[test]
+    fn calls_that_fail_among_others(rt: HostRuntime) -> Result<(), Fail> {
+        let alloc = rt.alloc();
+        let mut files = Vec::new(alloc);
+        for (name, bytes) in [("a", "alpha"), ("empty", ""), ("a", "hidden")] {
+            files.push(file(alloc, name, bytes.as_bytes())?)?;
+        }
+        let mut shelf = MemoryShelf::new(files, vec![in alloc; 1, 4]?);
+        for (name, most, want, faults) in [
+            ("a", 5, Ok(b"alpha".as_slice()), 0),
+            ("a", 5, Err(ShelfRefusal::Failed), 1),
+            ("a", 5, Ok(b"alpha".as_slice()), 1),
+            ("a", 4, Err(ShelfRefusal::TooLong), 1),
+            ("b", 5, Err(ShelfRefusal::Failed), 2),
+            ("b", 5, Err(ShelfRefusal::Missing), 2),
+            ("empty", 0, Ok(b"".as_slice()), 2),
+        ] {
+            let read = shelf.read(alloc, name, most);
+            let outcome = match &read {
+                Ok(bytes) => Ok(bytes.as_slice()),
+                Err(refusal) => Err(*refusal),
+            };
+            assert_eq!(rt; outcome, want, "{name}, {most}");
+            assert_eq!(rt; shelf.faults(), faults, "{name}, {most}");
+        }
+        Ok(())
+    }
+}

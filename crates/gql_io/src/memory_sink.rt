@@ -83,3 +83,33 @@ impl Sink for MemorySink {
         Ok(())
     }
 }
+
+#[cfg(test)]
+mod tests {
+    use super::*;
+    use std::test::Fail;
+
+    #[test]
+    fn calls_that_fail_among_others(rt: HostRuntime) -> Result<(), Fail> {
+        let failing = vec![in rt.alloc();
+            SinkFault { call: 1, taken: 10 },
+            SinkFault { call: 3, taken: 0 },
+            SinkFault { call: 4, taken: 9 },
+            SinkFault { call: 4, taken: 1 },
+        ]?;
+        let mut sink = MemorySink::new(rt.alloc(), failing);
+        for (piece, want, sent, faults) in [
+            ("<", Ok(()), "<", 0),
+            ("0123456789ab", Err(Failed), "<0123456789", 1),
+            (">", Ok(()), "<0123456789>", 1),
+            ("lost", Err(Failed), "<0123456789>", 2),
+            ("all", Err(Failed), "<0123456789>all", 3),
+            ("", Ok(()), "<0123456789>all", 3),
+        ] {
+            assert_eq!(rt; sink.put(piece.as_bytes()), want, "{piece}");
+            assert_eq!(rt; sink.sent(), sent.as_bytes(), "{piece}");
+            assert_eq!(rt; sink.faults(), faults, "{piece}");
+        }
+        Ok(())
+    }
+}

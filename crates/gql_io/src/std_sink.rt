@@ -71,3 +71,87 @@ impl<W: Write> Sink for StdSink<W> {
         Ok(())
     }
 }
+
+#[cfg(test)]
+mod tests {
+    use super::*;
+    use std::test::Fail;
+
+    /// Takes three bytes a write, and answers otherwise once, where it holds
+    /// so many: by the kind, or by taking nothing.
+    #[derive(Drop)]
+    struct Choppy {
+        held: Vec<u8>,
+        stops_at: usize,
+        kind: Option<ErrorKind>,
+    }
+
+    impl Write for Choppy {
+        ghost use Rattle.std.specs.Prelude.{Some};
+
+        ghost contents = { λ writer. Some writer.held.items };
+
+        fn write(&mut self, bytes: &[u8]) -> io::Result<usize> {
+            if self.held.len() == self.stops_at {
+                self.stops_at = usize::MAX;
+                return match self.kind {
+                    None => Ok(0),
+                    Some(kind) => Err(io::Error::from(kind)),
+                };
+            }
+            let room = self.stops_at.saturating_sub(self.held.len());
+            let count = bytes.len().min(3).min(room);
+            self.held.extend_from_slice(&bytes[..count])?;
+            Ok(count)
+        }
+
+        fn flush(&mut self) -> io::Result<()> {
+            Ok(())
+        }
+    }
+
+    #[test]
+    fn pieces_to_a_writer_that_stops(rt: HostRuntime) {
+        let reset = Some(ErrorKind::ConnectionReset);
+        let interrupted = Some(ErrorKind::Interrupted);
+        for (stops_at, kind, first, held) in [
+            (usize::MAX, None, Ok(()), b"12345678".as_slice()),
+            (0, None, Err(Failed), b"".as_slice()),
+            (4, None, Err(Failed), b"1234".as_slice()),
+            (5, reset, Err(Failed), b"12345".as_slice()),
+            (8, reset, Ok(()), b"12345678".as_slice()),
+            (5, interrupted, Ok(()), b"12345678".as_slice()),
+        ] {
+            let mut sink = StdSink::new(Choppy {
+                held: Vec::new(rt.alloc()),
+                stops_at,
+                kind,
+            });
+            assert_eq!(rt; sink.put(b"12345678"), first, "stops at {stops_at}");
+            assert_eq!(rt; sink.writer.held.as_slice(), held, "stops at {stops_at}");
+            let faults = if first.is_ok() { 0 } else { 1 };
+            assert_eq!(rt; sink.faults(), faults, "stops at {stops_at}");
+        }
+    }
+
+    #[test]
+    fn the_next_piece_after_a_fault(rt: HostRuntime) {
+        let mut sink = StdSink::new(Choppy {
+            held: Vec::new(rt.alloc()),
+            stops_at: 4,
+            kind: None,
+        });
+        assert_eq!(rt; sink.put(b"123456"), Err(Failed));
+        assert_eq!(rt; sink.put(b"abcde"), Ok(()));
+        assert_eq!(rt; sink.writer.held.as_slice(), b"1234abcde".as_slice());
+        assert_eq!(rt; sink.faults(), 1);
+    }
+
+    #[test]
+    fn pieces_to_standard_output(rt: HostRuntime) {
+        let mut sink = StdSink::new(rt.stdout());
+        assert_eq!(rt; sink.put(b"sent\n"), Ok(()));
+        assert_eq!(rt; sink.put(b""), Ok(()));
+        assert_eq!(rt; sink.faults(), 0);
+    }
+}
