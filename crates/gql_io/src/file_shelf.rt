@@ -21,6 +21,7 @@ pub struct FileShelf<'a, R> {
 }
 
 impl<'a, R: Files> FileShelf<'a, R> {
+    /// The files that the runtime reaches.
     pub fn new(rt: &'a R) -> Self
         ensures { faults_of result ≡ 0 }
     {
@@ -32,22 +33,6 @@ impl<'a, R: Files> FileShelf<'a, R> {
         ensures { result ≡ faults_of self.now }
     {
         self.faults
-    }
-}
-
-/// All that a reader gives, where that is at most `most` bytes. It takes at most
-/// one byte more from the reader.
-fn read_whole<F: Read + Drop>(alloc: Global, file: F, most: u64) -> Result<Bytes, ShelfRefusal>
-    ensures told { IfSome (F.remaining file) (λ bytes. ReadsFile (Some bytes) most result) }
-    ensures bound { IfOk result (λ bytes. length bytes ≤ most) }
-    ensures found { ¬ IsErrOf result ShelfRefusal.Missing }
-{
-    let mut bytes = Vec::new(alloc);
-    match file.take(most.saturating_add(1)).read_to_end(&mut bytes) {
-        Ok(_) if bytes.len() as u64 > most => Err(ShelfRefusal::TooLong),
-        Ok(_) => Ok(Bytes::from_vec(bytes)),
-        Err(error) if error.kind() == ErrorKind::OutOfMemory => Err(ShelfRefusal::NoMemory),
-        Err(_) => Err(ShelfRefusal::Failed),
     }
 }
 
@@ -80,6 +65,22 @@ fn refusal_to_open(kind: ErrorKind) -> ShelfRefusal
         ErrorKind::NotFound => ShelfRefusal::Missing,
         ErrorKind::OutOfMemory => ShelfRefusal::NoMemory,
         _ => ShelfRefusal::Failed,
+    }
+}
+
+/// All that a reader gives, where that is at most `most` bytes. It takes at most
+/// one byte more from the reader.
+fn read_whole<F: Read + Drop>(alloc: Global, file: F, most: u64) -> Result<Bytes, ShelfRefusal>
+    ensures told { IfSome (F.remaining file) (λ bytes. ReadsFile (Some bytes) most result) }
+    ensures bound { IfOk result (λ bytes. length bytes ≤ most) }
+    ensures found { ¬ IsErrOf result ShelfRefusal.Missing }
+{
+    let mut bytes = Vec::new(alloc);
+    match file.take(most.saturating_add(1)).read_to_end(&mut bytes) {
+        Ok(_) if bytes.len() as u64 > most => Err(ShelfRefusal::TooLong),
+        Ok(_) => Ok(Bytes::from_vec(bytes)),
+        Err(error) if error.kind() == ErrorKind::OutOfMemory => Err(ShelfRefusal::NoMemory),
+        Err(_) => Err(ShelfRefusal::Failed),
     }
 }
 

@@ -1,6 +1,7 @@
-ghost use Rattle.std.specs.Prelude.{◌≡◌, ◌↔◌, ◌+◌, ◌-◌, ◌^◌, min, Some, option_map, find, bytes_eq, Contains, IsErr};
+ghost use Rattle.std.specs.Prelude.{◌≡◌, ◌↔◌, ◌≤◌, length, Some, option_map, find, bytes_eq, IfOk, IsErr, IsErrOf};
 ghost use Rattle.gql_io.specs.Faults.{Counts};
-ghost use Rattle.gql_io.specs.MemoryShelf.{bytes_under, files_of, faults_of};
+ghost use Rattle.gql_io.specs.Files.{Reads};
+ghost use Rattle.gql_io.specs.MemoryShelf.{bytes_under, files_of, failing_of, calls_of, faults_of, FailsNext, IsNext};
 
 use crate::{Failed, Shelf, ShelfRefusal};
 use gql_tree::{Bytes, Text};
@@ -13,7 +14,7 @@ pub struct ShelfFile {
     pub bytes: Bytes,
 }
 
-/// A shelf in memory, which fails at calls of its choice.
+/// A shelf in memory, which fails at the calls that it is told to fail.
 #[derive(Debug, Drop)]
 pub struct MemoryShelf {
     files: Vec<ShelfFile>,
@@ -27,6 +28,8 @@ impl MemoryShelf {
     /// name, and with the numbers of the calls that fail, counted from 0.
     pub fn new(files: Vec<ShelfFile>, failing: Vec<u64>) -> Self
         ensures files { files_of result ≡ Some (bytes_under files.items) }
+        ensures failing { failing_of result ≡ failing.items }
+        ensures calls { calls_of result ≡ 0 }
         ensures faults { faults_of result ≡ 0 }
     {
         MemoryShelf {
@@ -46,10 +49,10 @@ impl MemoryShelf {
 
     /// Counts a call, and a fault where it is one that fails.
     fn begin_call(&mut self) -> Result<(), Failed>
-        ensures fails { IsErr result ↔ Contains self.old.failing.items self.old.calls }
-        ensures counted { self.new.calls ≡ min (self.old.calls + 1) (2 ^ 64 - 1) }
+        ensures listed { IsErr result ↔ FailsNext self.old }
+        ensures same { self.new.files ≡ self.old.files }
+        ensures next { IsNext self.old self.new }
         ensures cause { Counts (faults_of self.old) (faults_of self.new) (IsErr result) }
-        ensures same { (self.new.files ≡ self.old.files) × (self.new.failing ≡ self.old.failing) }
     {
         let failing = self.failing.as_slice().contains(&self.calls);
         self.calls = self.calls.saturating_add(1);
@@ -73,7 +76,16 @@ impl Shelf for MemoryShelf {
 
     ghost faults = { faults_of };
 
-    fn read(&mut self, alloc: Global, name: &str, most: u64) -> Result<Bytes, ShelfRefusal> {
+    fn read(&mut self, alloc: Global, name: &str, most: u64) -> Result<Bytes, ShelfRefusal>
+        ensures answer { Reads (files_of self.old) name.now most result }
+        ensures bound { IfOk result (λ bytes. length bytes ≤ most) }
+        ensures same { files_of self.new ≡ files_of self.old }
+        ensures cause { Counts (faults_of self.old) (faults_of self.new) (IsErrOf result ShelfRefusal.Failed) }
+
+        // The calls that fail are those of the list.
+        ensures listed { IsErrOf result ShelfRefusal.Failed ↔ FailsNext self.old }
+        ensures next { IsNext self.old self.new }
+    {
         self.begin_call()?;
         match file_under(self.files.as_slice(), name) {
             None => Err(ShelfRefusal::Missing),

@@ -1,5 +1,7 @@
-ghost use Rattle.std.specs.Prelude.{◌≡◌, ◌+◌, ◌-◌, ◌^◌, min, [], Some};
-ghost use Rattle.gql_io.specs.MemorySink.{sent_of, faults_of, taken_at};
+ghost use Rattle.std.specs.Prelude.{◌≡◌, [], Some, IsSome, IsErr};
+ghost use Rattle.gql_io.specs.Faults.{Counts};
+ghost use Rattle.gql_io.specs.MemorySink.{sent_of, failing_of, calls_of, faults_of, taken_next, share_of, IsNext, TakesOrFails};
+ghost use Rattle.gql_io.specs.Told.{Puts};
 
 use crate::{Failed, Sink};
 use std::alloc::Global;
@@ -14,8 +16,8 @@ pub struct SinkFault {
     pub taken: usize,
 }
 
-/// A sink in memory, which fails at calls of its choice and where it has no
-/// memory for a piece.
+/// A sink in memory, which fails at the calls that it is told to fail, and where
+/// it has no memory for a piece.
 #[derive(Debug, Drop)]
 pub struct MemorySink {
     sent: Vec<u8>,
@@ -29,6 +31,8 @@ impl MemorySink {
     /// where two have one number.
     pub fn new(alloc: Global, failing: Vec<SinkFault>) -> Self
         ensures sent { sent_of result ≡ Some [] }
+        ensures failing { failing_of result ≡ failing.items }
+        ensures calls { calls_of result ≡ 0 }
         ensures faults { faults_of result ≡ 0 }
     {
         MemorySink {
@@ -56,8 +60,9 @@ impl MemorySink {
     /// Counts a call, and tells how many bytes it takes where it is one that
     /// fails.
     fn begin_call(&mut self) -> Option<usize>
-        ensures taken { result ≡ taken_at self.old.failing.items self.old.calls }
-        ensures counted { self.new ≡ record self.old { calls = min (self.old.calls + 1) (2 ^ 64 - 1) } }
+        ensures taken { result ≡ taken_next self.old }
+        ensures same { (self.new.sent ≡ self.old.sent) × (self.new.faults ≡ self.old.faults) }
+        ensures next { IsNext self.old self.new }
     {
         let call = self.calls;
         self.calls = call.saturating_add(1);
@@ -73,7 +78,16 @@ impl Sink for MemorySink {
 
     ghost faults = { faults_of };
 
-    fn put(&mut self, piece: &[u8]) -> Result<(), Failed> {
+    fn put(&mut self, piece: &[u8]) -> Result<(), Failed>
+        ensures sent { Puts (sent_of self.old) (sent_of self.new) piece.now result }
+        ensures cause { Counts (faults_of self.old) (faults_of self.new) (IsErr result) }
+
+        // The calls of the list fail, and each call takes its share of the piece
+        // where there is memory for that.
+        ensures listed { IsSome (taken_next self.old) → IsErr result }
+        ensures share { TakesOrFails self.old self.new (share_of self.old piece.now) result }
+        ensures next { IsNext self.old self.new }
+    {
         let fault = self.begin_call();
         let taken = fault.unwrap_or(piece.len()).min(piece.len());
         if self.sent.extend_from_slice(&piece[..taken]).is_err() || fault.is_some() {

@@ -4,7 +4,7 @@ ghost use Rattle.gql_io.specs.Files.{Files, Reads};
 
 use crate::Failed;
 use gql_tree::{Bytes, NoMemory};
-use std::alloc::{AllocError, Global};
+use std::alloc::Global;
 use thiserror::Error;
 
 /// Why a shelf gave no file. The shelf has the files that it had before.
@@ -30,16 +30,6 @@ impl From<NoMemory> for ShelfRefusal {
     ghost from_gives = { λ _ refusal. refusal ≡ NoMemory };
 
     fn from(_: NoMemory) -> Self {
-        ShelfRefusal::NoMemory
-    }
-}
-
-impl From<AllocError> for ShelfRefusal {
-    ghost use Rattle.gql_io.specs.declared.shelf.ShelfRefusal.TheVariants.{NoMemory};
-
-    ghost from_gives = { λ _ refusal. refusal ≡ NoMemory };
-
-    fn from(_: AllocError) -> Self {
         ShelfRefusal::NoMemory
     }
 }

@@ -3,6 +3,7 @@ ghost use Rattle.std.specs.Io.{WritesAtMost};
 ghost use Rattle.std.specs.Io.KnownBytes.{WriteAppends};
 ghost use Rattle.std.specs.IoError.{error_kind};
 ghost use Rattle.gql_io.specs.StdSink.{writer_of, faults_of};
+ghost use Rattle.gql_io.specs.Told.{Puts};
 
 use crate::{Failed, Sink};
 use std::io;
@@ -37,6 +38,34 @@ impl<W: Write> StdSink<W> {
     }
 }
 
+impl<W: Write> Sink for StdSink<W> {
+    ghost sent = { λ sink. W.contents (writer_of sink) };
+
+    ghost faults = { faults_of };
+
+    fn put(&mut self, piece: &[u8]) -> Result<(), Failed> {
+        let outcome = write_whole(&mut self.writer, piece);
+        if outcome.is_err() {
+            self.faults = self.faults.saturating_add(1);
+        }
+        outcome
+    }
+}
+
+/// Writes until the writer has taken all of the bytes, or no more of them.
+fn write_whole<W: Write>(writer: &mut W, bytes: &[u8]) -> Result<(), Failed>
+    ensures { Puts (W.contents writer.old) (W.contents writer.new) bytes.now result }
+{
+    let mut taken = 0;
+    while taken < bytes.len() {
+        match write_front(writer, &bytes[taken..]) {
+            Ok(count) if count > 0 => taken += count,
+            _ => return Err(Failed),
+        }
+    }
+    Ok(())
+}
+
 /// One write of a front of the bytes, made again where a signal interrupts it.
 fn write_front<W: Write>(writer: &mut W, bytes: &[u8]) -> io::Result<usize>
     ensures bound { WritesAtMost result bytes.now }
@@ -50,26 +79,6 @@ fn write_front<W: Write>(writer: &mut W, bytes: &[u8]) -> io::Result<usize>
         }
     }
     Err(io::Error::from(ErrorKind::TimedOut))
-}
-
-impl<W: Write> Sink for StdSink<W> {
-    ghost sent = { λ sink. W.contents (writer_of sink) };
-
-    ghost faults = { faults_of };
-
-    fn put(&mut self, piece: &[u8]) -> Result<(), Failed> {
-        let mut taken = 0;
-        while taken < piece.len() {
-            match write_front(&mut self.writer, &piece[taken..]) {
-                Ok(count) if count > 0 => taken += count,
-                _ => {
-                    self.faults = self.faults.saturating_add(1);
-                    return Err(Failed);
-                }
-            }
-        }
-        Ok(())
-    }
 }
 
 #[cfg(test)]

@@ -1,6 +1,0 @@
-use Rattle.std.proofs.Common.{arith, length-drop}
-use Rattle.gql_io.proofs.Told.{Appends-take}
-use Rattle.gql_io.proofs.std_sink.StdSinkSink.put.Goals as goal
-
-pub loop-taken-preserved : goal.loop-taken-preserved
-loop-taken-preserved g c = (omega (arith, c.in-Ok.ensures.bound, length-drop c.loop-taken.taken c.args.piece.now), Appends-take _ _ _ c.args.piece.now _ _ c.loop-taken.invariant.1 c.in-Ok.ensures.front, c.loop-taken.invariant.2)
