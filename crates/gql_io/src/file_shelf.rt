@@ -59,7 +59,7 @@ impl<'a, R: Files> Shelf for FileShelf<'a, R> {
 fn refusal_to_open(kind: ErrorKind) -> ShelfRefusal
     ensures missing { (result ≡ ShelfRefusal.Missing) ↔ (kind ≡ ErrorKind.NotFound) }
     ensures no_memory { (result ≡ ShelfRefusal.NoMemory) ↔ (kind ≡ ErrorKind.OutOfMemory) }
-    ensures found { ¬ (result ≡ ShelfRefusal.TooLong) }
+    ensures never_too_long { ¬ (result ≡ ShelfRefusal.TooLong) }
 {
     match kind {
         ErrorKind::NotFound => ShelfRefusal::Missing,
@@ -73,7 +73,7 @@ fn refusal_to_open(kind: ErrorKind) -> ShelfRefusal
 fn read_whole<F: Read + Drop>(alloc: Global, file: F, most: u64) -> Result<Bytes, ShelfRefusal>
     ensures told { IfSome (F.remaining file) (λ bytes. ReadsFile (Some bytes) most result) }
     ensures bound { IfOk result (λ bytes. length bytes ≤ most) }
-    ensures found { ¬ IsErrOf result ShelfRefusal.Missing }
+    ensures never_missing { ¬ IsErrOf result ShelfRefusal.Missing }
 {
     let mut bytes = Vec::new(alloc);
     match file.take(most.saturating_add(1)).read_to_end(&mut bytes) {

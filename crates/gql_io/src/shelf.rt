@@ -13,7 +13,7 @@ pub enum ShelfRefusal {
     /// The shelf has no file of this name.
     #[error("no such file")]
     Missing,
-    /// The file has more bytes than were asked for.
+    /// The file has more bytes than the call allows.
     #[error("the file is too long")]
     TooLong,
     /// The shelf failed, and its count of faults rose.
