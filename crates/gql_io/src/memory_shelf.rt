@@ -1,0 +1,137 @@
+ghost use Rattle.std.specs.Prelude.{◌≡◌, ◌↔◌, ◌≤◌, length, Some, option_map, find, bytes_eq, IfOk, IsErr, IsErrOf};
+ghost use Rattle.gql_io.specs.Faults.{Counts};
+ghost use Rattle.gql_io.specs.Files.{Reads};
+ghost use Rattle.gql_io.specs.MemoryShelf.{bytes_under, files_of, failing_of, calls_of, faults_of, FailsNext, IsNext};
+
+use crate::{Failed, Shelf, ShelfRefusal};
+use gql_tree::{Bytes, Text};
+use std::alloc::Global;
+
+/// A file of a shelf in memory.
+#[derive(Debug, Drop)]
+pub struct ShelfFile {
+    pub name: Text,
+    pub bytes: Bytes,
+}
+
+/// A shelf in memory, which fails at the calls that it is told to fail.
+#[derive(Debug, Drop)]
+pub struct MemoryShelf {
+    files: Vec<ShelfFile>,
+    failing: Vec<u64>,
+    calls: u64,
+    faults: u64,
+}
+
+impl MemoryShelf {
+    /// A shelf with these files, of which the first counts where two have one
+    /// name, and with the numbers of the calls that fail, counted from 0.
+    pub fn new(files: Vec<ShelfFile>, failing: Vec<u64>) -> Self
+        ensures files { files_of result ≡ Some (bytes_under files.items) }
+        ensures failing { failing_of result ≡ failing.items }
+        ensures calls { calls_of result ≡ 0 }
+        ensures faults { faults_of result ≡ 0 }
+    {
+        MemoryShelf {
+            files,
+            failing,
+            calls: 0,
+            faults: 0,
+        }
+    }
+
+    /// How often the shelf has failed.
+    pub fn faults(&self) -> u64
+        ensures { result ≡ faults_of self.now }
+    {
+        self.faults
+    }
+
+    /// Counts a call, and a fault where it is one that fails.
+    fn begin_call(&mut self) -> Result<(), Failed>
+        ensures listed { IsErr result ↔ FailsNext self.old }
+        ensures same { self.new.files ≡ self.old.files }
+        ensures next { IsNext self.old self.new }
+        ensures cause { Counts (faults_of self.old) (faults_of self.new) (IsErr result) }
+    {
+        let failing = self.failing.as_slice().contains(&self.calls);
+        self.calls = self.calls.saturating_add(1);
+        if failing {
+            self.faults = self.faults.saturating_add(1);
+            return Err(Failed);
+        }
+        Ok(())
+    }
+}
+
+/// The first file of a name.
+fn file_under<'a>(files: &'a [ShelfFile], name: &str) -> Option<&'a ShelfFile>
+    ensures { option_map (λ file. file.now) result ≡ find (λ file. bytes_eq file.name name.now) files.now }
+{
+    files.iter().find(|file| file.name.as_str() == name)
+}
+
+impl Shelf for MemoryShelf {
+    ghost files = { files_of };
+
+    ghost faults = { faults_of };
+
+    fn read(&mut self, alloc: Global, name: &str, most: u64) -> Result<Bytes, ShelfRefusal>
+        ensures answer { Reads (files_of self.old) name.now most result }
+        ensures bound { IfOk result (λ bytes. length bytes ≤ most) }
+        ensures same { files_of self.new ≡ files_of self.old }
+        ensures cause { Counts (faults_of self.old) (faults_of self.new) (IsErrOf result ShelfRefusal.Failed) }
+
+        // The calls that fail are those of the list.
+        ensures listed { IsErrOf result ShelfRefusal.Failed ↔ FailsNext self.old }
+        ensures next { IsNext self.old self.new }
+    {
+        self.begin_call()?;
+        match file_under(self.files.as_slice(), name) {
+            None => Err(ShelfRefusal::Missing),
+            Some(file) if file.bytes.as_slice().len() as u64 > most => Err(ShelfRefusal::TooLong),
+            Some(file) => Ok(Bytes::copy_of(alloc, file.bytes.as_slice())?),
+        }
+    }
+}
+
+#[cfg(test)]
+mod tests {
+    use super::*;
+    use std::test::Fail;
+
+    fn file(alloc: Global, name: &str, bytes: &[u8]) -> Result<ShelfFile, ShelfRefusal> {
+        Ok(ShelfFile {
+            name: Text::copy_of(alloc, name)?,
+            bytes: Bytes::copy_of(alloc, bytes)?,
+        })
+    }
+
+    #[test]
+    fn calls_that_fail_among_others(rt: HostRuntime) -> Result<(), Fail> {
+        let alloc = rt.alloc();
+        let mut files = Vec::new(alloc);
+        for (name, bytes) in [("a", "alpha"), ("empty", ""), ("a", "hidden")] {
+            files.push(file(alloc, name, bytes.as_bytes())?)?;
+        }
+        let mut shelf = MemoryShelf::new(files, vec![in alloc; 1, 4]?);
+        for (name, most, want, faults) in [
+            ("a", 5, Ok(b"alpha".as_slice()), 0),
+            ("a", 5, Err(ShelfRefusal::Failed), 1),
+            ("a", 5, Ok(b"alpha".as_slice()), 1),
+            ("a", 4, Err(ShelfRefusal::TooLong), 1),
+            ("b", 5, Err(ShelfRefusal::Failed), 2),
+            ("b", 5, Err(ShelfRefusal::Missing), 2),
+            ("empty", 0, Ok(b"".as_slice()), 2),
+        ] {
+            let read = shelf.read(alloc, name, most);
+            let outcome = match &read {
+                Ok(bytes) => Ok(bytes.as_slice()),
+                Err(refusal) => Err(*refusal),
+            };
+            assert_eq!(rt; outcome, want, "{name}, {most}");
+            assert_eq!(rt; shelf.faults(), faults, "{name}, {most}");
+        }
+        Ok(())
+    }
+}
