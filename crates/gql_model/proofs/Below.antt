@@ -114,7 +114,7 @@ module _ (w : World) (nodes : List Node) (numbered : IsNumbered nodes) (kind : �
   met_below-deeper zero m tag n room le = sym (below_past m tag n (omega arith))
   met_below-deeper (suc d) zero tag n room le = absurd (omega arith)
   met_below-deeper (suc d) (suc m) tag n room le =
-    flat_alike _ _ (children_of (slice_get nodes n)) (each_weaker (λ c. n < c) (λ c. met_child w nodes kind path (met_below w nodes kind path d) tag c (slice_get nodes c) ≡ met_child w nodes kind path (met_below w nodes kind path m) tag c (slice_get nodes c)) (λ c lt. child_alike (met_below w nodes kind path d) (met_below w nodes kind path m) tag c (λ t. met_below-deeper d m t c (omega arith) (omega arith)) (slice_get nodes c)) (children_of (slice_get nodes n)) (children_after n (slice_get nodes n) refl))
+      flat_alike _ _ (children_of (slice_get nodes n)) (each_weaker (λ c. n < c) (λ c. met_child w nodes kind path (met_below w nodes kind path d) tag c (slice_get nodes c) ≡ met_child w nodes kind path (met_below w nodes kind path m) tag c (slice_get nodes c)) (λ c lt. child_alike (met_below w nodes kind path d) (met_below w nodes kind path m) tag c (λ t. met_below-deeper d m t c (omega arith) (omega arith)) (slice_get nodes c)) (children_of (slice_get nodes n)) (children_after n (slice_get nodes n) refl))
 
 pub collecting_unfolds : (w : World) (nodes : List Node) (numbered : IsNumbered nodes) → CollectingUnfolds w nodes
 collecting_unfolds w nodes numbered kind path tag n = met_below-deeper w nodes numbered kind path (length nodes) (suc (length nodes)) tag n (omega arith) (omega arith)
@@ -140,9 +140,9 @@ module _ (nodes : List Node) (numbered : IsNumbered nodes) where
 
   above_others : (n : ℕ) (node : Node) → slice_get nodes (suc n) ≡ Some node → ancestors nodes (suc n) ≡ node.parent ∷ ancestors nodes node.parent
   above_others n node is =
-    let lt : suc n < length nodes = slice_get_within nodes (suc n) node is in
-    above-more (length nodes) (suc (length nodes)) (suc n) (omega arith) (omega arith)
-    ∙ ap (λ (o : Option Node). elim o as (λ x. List ℕ) [ None ↦ [] | Some node ↦ node.parent ∷ ancestors nodes node.parent ]) is
+      let lt : suc n < length nodes = slice_get_within nodes (suc n) node is in
+      above-more (length nodes) (suc (length nodes)) (suc n) (omega arith) (omega arith)
+      ∙ ap (λ (o : Option Node). elim o as (λ x. List ℕ) [ None ↦ [] | Some node ↦ node.parent ∷ ancestors nodes node.parent ]) is
 
   pub ancestors_unfold : AncestorsUnfold nodes
   ancestors_unfold = record { operation = above_operation (length nodes); others = above_others }

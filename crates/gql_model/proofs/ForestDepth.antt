@@ -92,14 +92,14 @@ module _ (G : Group → Type 0) (S : Stream → Type 0) where
     all_complete (s.named t) first (c.ref row) path = all_soft (object row path) (objects row path)
     all_complete (s.named t) first x path = all_leaf spot x path
     all_complete (s.list shape) (Some n) (c.items xs) path =
-      let item : ℕ → Cell → Part = λ i y. complete spot object streams shape None y (path ++ Index i ∷ []) in
-      let items = indexed item 0 (take n (cells_of xs)) in
-      let found = streams n (length (cells_of xs)) path in
-      all_soft (whole v.List found items) (all_whole v.List found items (lists n (length (cells_of xs)) path) (all_indexed item (λ i y. all_complete shape None y (path ++ Index i ∷ [])) 0 (take n (cells_of xs))))
+        let item : ℕ → Cell → Part = λ i y. complete spot object streams shape None y (path ++ Index i ∷ []) in
+        let items = indexed item 0 (take n (cells_of xs)) in
+        let found = streams n (length (cells_of xs)) path in
+        all_soft (whole v.List found items) (all_whole v.List found items (lists n (length (cells_of xs)) path) (all_indexed item (λ i y. all_complete shape None y (path ++ Index i ∷ [])) 0 (take n (cells_of xs))))
     all_complete (s.list shape) None (c.items xs) path =
-      let item : ℕ → Cell → Part = λ i y. complete spot object streams shape None y (path ++ Index i ∷ []) in
-      let items = indexed item 0 (cells_of xs) in
-      all_soft (whole v.List no_found items) (all_whole v.List no_found items (tt, tt) (all_indexed item (λ i y. all_complete shape None y (path ++ Index i ∷ [])) 0 (cells_of xs)))
+        let item : ℕ → Cell → Part = λ i y. complete spot object streams shape None y (path ++ Index i ∷ []) in
+        let items = indexed item 0 (cells_of xs) in
+        all_soft (whole v.List no_found items) (all_whole v.List no_found items (tt, tt) (all_indexed item (λ i y. all_complete shape None y (path ++ Index i ∷ [])) 0 (cells_of xs)))
     all_complete (s.list shape) (Some n) x path = all_leaf spot x path
     all_complete (s.list shape) None x path = all_leaf spot x path
 
@@ -144,26 +144,26 @@ module _ (w : World) (nodes : List Node) (numbered : IsNumbered nodes) where
 
   groups_at_from : (n : ℕ) (own : List FragId) (row : Row) (path : List Key) (ds : List Detail) → Each (DetailFrom n) ds → Each (GroupFrom n) (groups_at nodes own row path ds)
   groups_at_from n own row path ds h =
-    let others = filter (λ d. not (is_own nodes own d)) ds in
-    let kept = each_filter (DetailFrom n) (λ d. not (is_own nodes own d)) ds h in
-    each_map {A = List FragId × List Detail} {B = Group} (GroupFrom n) (λ g. Each (DetailFrom n) g.1) (λ g. record { owners = g.0; path = record { keys = path }; row = row; fields = g.1 }) (λ g k. k) _
+      let others = filter (λ d. not (is_own nodes own d)) ds in
+      let kept = each_filter (DetailFrom n) (λ d. not (is_own nodes own d)) ds h in
+      each_map {A = List FragId × List Detail} {B = Group} (GroupFrom n) (λ g. Each (DetailFrom n) g.1) (λ g. record { owners = g.0; path = record { keys = path }; row = row; fields = g.1 }) (λ g k. k) _
       (each_gathered {A = Detail} (DetailFrom n) (same_lists same_fragment) (map (λ d. (owners nodes d.nodes, d)) others) (each_map {A = Detail} {B = List FragId × Detail} (λ x. DetailFrom n x.1) (DetailFrom n) (λ d. (owners nodes d.nodes, d)) (λ d k. k) others kept))
 
   object_from_node : (deep n : ℕ) (own : List FragId) (row : Row) (os : List Occurrence) (path : List Key) → From n os → FoundFrom (suc n) (suc n) (object_part w nodes deep own row os path)
   object_from_node zero n own row os path h = (tt, tt)
   object_from_node (suc deep) n own row os path h =
-    let ms = met w nodes row.kind path os in
-    let ds = merged ms in
-    let below = merged-from w nodes numbered row.kind path n os h in
-    let mine = filter (is_own nodes own) ds in
-    let kept = each_filter (DetailFrom (suc n)) (is_own nodes own) ds below in
-    let le : suc n ≤ suc (suc n) = omega arith in
-    let found : Found = record { fragments = fragments ms; groups = groups_at nodes own row path ds; streams = [] } in
-    let object : Detail → Row → List Key → Part = λ d r p. object_part w nodes deep own r d.nodes p in
-    let part : Detail → Part = λ d. field_part w nodes (object d) row path d in
-    all_whole (GroupFrom (suc n)) (StreamFrom (suc n)) (object_value mine) found (map part mine) (groups_at_from (suc n) own row path ds below, tt)
+      let ms = met w nodes row.kind path os in
+      let ds = merged ms in
+      let below = merged-from w nodes numbered row.kind path n os h in
+      let mine = filter (is_own nodes own) ds in
+      let kept = each_filter (DetailFrom (suc n)) (is_own nodes own) ds below in
+      let le : suc n ≤ suc (suc n) = omega arith in
+      let found : Found = record { fragments = fragments ms; groups = groups_at nodes own row path ds; streams = [] } in
+      let object : Detail → Row → List Key → Part = λ d r p. object_part w nodes deep own r d.nodes p in
+      let part : Detail → Part = λ d. field_part w nodes (object d) row path d in
+      all_whole (GroupFrom (suc n)) (StreamFrom (suc n)) (object_value mine) found (map part mine) (groups_at_from (suc n) own row path ds below, tt)
       (each_map (FoundFrom (suc n) (suc n)) (DetailFrom (suc n)) part
-        (λ d k. executed_at_from (suc n) (suc n) (object d) (λ r p. found_lower (suc (suc n)) (suc n) le (object d r p) (object_from_node deep (suc n) own r d.nodes p k)) row path d k (node_of nodes d)) mine kept)
+      (λ d k. executed_at_from (suc n) (suc n) (object d) (λ r p. found_lower (suc (suc n)) (suc n) le (object d r p) (object_from_node deep (suc n) own r d.nodes p k)) row path d k (node_of nodes d)) mine kept)
 
   -- ---- the tasks of a task's region
 
@@ -180,20 +180,20 @@ module _ (w : World) (nodes : List Node) (numbered : IsNumbered nodes) where
     tasks_by bubble fs h = tt
     tasks_by nothing fs h = tt
     tasks_by (good x f) fs h = each_append T _ _
-      (each_map T G Fields groups _ (each_ordered G group_cmp f.groups h.0))
-      (each_flat T S items_of (λ y k. items_settled T y (streams y k) _) _ (each_ordered S stream_cmp f.streams h.1))
+        (each_map T G Fields groups _ (each_ordered G group_cmp f.groups h.0))
+        (each_flat T S items_of (λ y k. items_settled T y (streams y k) _) _ (each_ordered S stream_cmp f.streams h.1))
 
     tasks_all : (p : Part) → AllIn G S p → Each T (tasks_of (region_of p))
     tasks_all p h = tasks_by p.result p.faults h
 
   group_found : (n : ℕ) (g : Group) → GroupFrom n g → FoundFrom (suc n) n (fields_part w nodes (object_at w nodes g.owners) g.row g.path.keys no_found g.fields)
   group_found n g h =
-    let le : n ≤ suc n = omega arith in
-    let object : Detail → Row → List Key → Part = λ d r p. object_at w nodes g.owners r d.nodes p in
-    let part : Detail → Part = λ d. field_part w nodes (object d) g.row g.path.keys d in
-    all_whole (GroupFrom (suc n)) (StreamFrom n) (object_value g.fields) no_found (map part g.fields) (tt, tt)
+      let le : n ≤ suc n = omega arith in
+      let object : Detail → Row → List Key → Part = λ d r p. object_at w nodes g.owners r d.nodes p in
+      let part : Detail → Part = λ d. field_part w nodes (object d) g.row g.path.keys d in
+      all_whole (GroupFrom (suc n)) (StreamFrom n) (object_value g.fields) no_found (map part g.fields) (tt, tt)
       (each_map (FoundFrom (suc n) n) (DetailFrom n) part
-        (λ d k. executed_at_from (suc n) n (object d) (λ r p. found_weaker (suc n) (suc n) n le (object d r p) (object_from_node (suc (length nodes)) n g.owners r d.nodes p k)) g.row g.path.keys d k (node_of nodes d)) g.fields h)
+      (λ d k. executed_at_from (suc n) n (object d) (λ r p. found_weaker (suc n) (suc n) n le (object d r p) (object_from_node (suc (length nodes)) n g.owners r d.nodes p k)) g.row g.path.keys d k (node_of nodes d)) g.fields h)
 
   untagged_from : (n : ℕ) (os : List Occurrence) → From n os → From n (untagged os)
   untagged_from n os h = each_map (λ (o : Occurrence). n ≤ o.node) (λ (o : Occurrence). n ≤ o.node) (λ o. record { node = o.node; tag = None }) (λ o k. k) os h
@@ -213,15 +213,15 @@ module _ (w : World) (nodes : List Node) (numbered : IsNumbered nodes) where
 
   settled_next : (k : ℕ) (t : TaskWork) → Settled (suc k) t → Each (Settled k) (tasks_of (task_region w nodes t))
   settled_next k (Fields g) h =
-    let n = h.0 in
-    let fields : 2 * length nodes + 1 ≤ 2 * suc n + k = omega (arith, h.1) in
-    let items : 2 * length nodes ≤ 2 * n + k = omega (arith, h.1) in
-    tasks_all (Settled k) (GroupFrom (suc n)) (StreamFrom n) (λ g' i. (suc n, fields, i)) (λ x i j. (n, items, i)) (fields_part w nodes (object_at w nodes g.owners) g.row g.path.keys no_found g.fields) (group_found n g h.2)
+      let n = h.0 in
+      let fields : 2 * length nodes + 1 ≤ 2 * suc n + k = omega (arith, h.1) in
+      let items : 2 * length nodes ≤ 2 * n + k = omega (arith, h.1) in
+      tasks_all (Settled k) (GroupFrom (suc n)) (StreamFrom n) (λ g' i. (suc n, fields, i)) (λ x i j. (n, items, i)) (fields_part w nodes (object_at w nodes g.owners) g.row g.path.keys no_found g.fields) (group_found n g h.2)
   settled_next k (Item x i) h =
-    let n = h.0 in
-    let fields : 2 * length nodes + 1 ≤ 2 * suc n + k = omega (arith, h.1) in
-    let items : 2 * length nodes ≤ 2 * suc n + k = omega (arith, h.1) in
-    tasks_all (Settled k) (GroupFrom (suc n)) (StreamFrom (suc n)) (λ g j. (suc n, fields, j)) (λ y j m. (suc n, items, j)) (item_at w nodes x i (node_of nodes x.field)) (item_found n x i h.2 (node_of nodes x.field))
+      let n = h.0 in
+      let fields : 2 * length nodes + 1 ≤ 2 * suc n + k = omega (arith, h.1) in
+      let items : 2 * length nodes ≤ 2 * suc n + k = omega (arith, h.1) in
+      tasks_all (Settled k) (GroupFrom (suc n)) (StreamFrom (suc n)) (λ g j. (suc n, fields, j)) (λ y j m. (suc n, items, j)) (item_at w nodes x i (node_of nodes x.field)) (item_found n x i h.2 (node_of nodes x.field))
 
   -- ---- past the last node
 
@@ -240,17 +240,17 @@ module _ (w : World) (nodes : List Node) (numbered : IsNumbered nodes) where
 
   settled_last : (t : TaskWork) → Settled 0 t → tasks_of (task_region w nodes t) ≡ []
   settled_last (Fields g) h =
-    let n = h.0 in
-    let le : length nodes ≤ n = omega (arith, h.1) in
-    let past = each_weaker (DetailFrom n) (DetailFrom (length nodes)) (λ d k. from_weaker n (length nodes) le d.nodes k) g.fields h.2 in
-    let part : Detail → Part = λ d. field_part w nodes (λ r p. object_at w nodes g.owners r d.nodes p) g.row g.path.keys d in
-    let none = each_map NoneIn (DetailFrom (length nodes)) part (λ d k. field_past (λ r p. object_at w nodes g.owners r d.nodes p) g.row g.path.keys d k) g.fields past in
-    let all = all_whole (λ g. ⊥) (λ x. ⊥) (object_value g.fields) no_found (map part g.fields) (tt, tt) none in
-    each_none (tasks_of (task_region w nodes (Fields g))) (tasks_all (λ t. ⊥) (λ g. ⊥) (λ x. ⊥) (λ g i. i) (λ x i j. i) (whole (object_value g.fields) no_found (map part g.fields)) all)
+      let n = h.0 in
+      let le : length nodes ≤ n = omega (arith, h.1) in
+      let past = each_weaker (DetailFrom n) (DetailFrom (length nodes)) (λ d k. from_weaker n (length nodes) le d.nodes k) g.fields h.2 in
+      let part : Detail → Part = λ d. field_part w nodes (λ r p. object_at w nodes g.owners r d.nodes p) g.row g.path.keys d in
+      let none = each_map NoneIn (DetailFrom (length nodes)) part (λ d k. field_past (λ r p. object_at w nodes g.owners r d.nodes p) g.row g.path.keys d k) g.fields past in
+      let all = all_whole (λ g. ⊥) (λ x. ⊥) (object_value g.fields) no_found (map part g.fields) (tt, tt) none in
+      each_none (tasks_of (task_region w nodes (Fields g))) (tasks_all (λ t. ⊥) (λ g. ⊥) (λ x. ⊥) (λ g i. i) (λ x i j. i) (whole (object_value g.fields) no_found (map part g.fields)) all)
   settled_last (Item x i) h =
-    let le : length nodes ≤ h.0 = omega (arith, h.1) in
-    let none = node_past x.field (from_weaker h.0 (length nodes) le x.field.nodes h.2) in
-    ap (λ o. tasks_of (region_of (item_at w nodes x i o))) none
+      let le : length nodes ≤ h.0 = omega (arith, h.1) in
+      let none = node_past x.field (from_weaker h.0 (length nodes) le x.field.nodes h.2) in
+      ap (λ o. tasks_of (region_of (item_at w nodes x i o))) none
 
   -- ---- forests
 
@@ -269,8 +269,8 @@ module _ (w : World) (nodes : List Node) (numbered : IsNumbered nodes) where
   forest_below-deeper zero m le r h = ap (grown r) (grow_alike _ _ (tasks_of r) (each_weaker (Settled zero) (λ t. forest_below run zero (run t) ≡ forest_below run m (run t)) (λ t i. alone m (run t) (settled_last t i)) (tasks_of r) h))
   forest_below-deeper (suc k) zero le r h = absurd (omega arith)
   forest_below-deeper (suc k) (suc m) le r h =
-    let le' : k ≤ m = omega arith in
-    ap (grown r) (grow_alike _ _ (tasks_of r) (each_weaker (Settled (suc k)) (λ t. forest_below run (suc k) (run t) ≡ forest_below run (suc m) (run t)) (λ t i. forest_below-deeper k m le' (run t) (settled_next k t i)) (tasks_of r) h))
+      let le' : k ≤ m = omega arith in
+      ap (grown r) (grow_alike _ _ (tasks_of r) (each_weaker (Settled (suc k)) (λ t. forest_below run (suc k) (run t) ≡ forest_below run (suc m) (run t)) (λ t i. forest_below-deeper k m le' (run t) (settled_next k t i)) (tasks_of r) h))
 
   from_first : (os : List Occurrence) → From 0 os
   from_first os = each_always (λ (o : Occurrence). 0 ≤ o.node) (λ o. omega arith) os
@@ -281,10 +281,10 @@ module _ (w : World) (nodes : List Node) (numbered : IsNumbered nodes) where
 
   pub forests_unfold : ForestsUnfold w nodes
   forests_unfold r =
-    let depth : 2 * length nodes + 2 ≡ suc (suc (2 * length nodes)) = omega arith in
-    let more : 2 * length nodes + 1 ≡ suc (2 * length nodes) = omega arith in
-    let le : 2 * length nodes ≤ suc (2 * length nodes) = omega arith in
-    let settled : (t : TaskWork) → Settled (suc (2 * length nodes)) t = λ t. subst (λ k. Settled k t) more (settled_first t) in
-    let below : (t : TaskWork) → forest_below run (suc (2 * length nodes)) (run t) ≡ forest_below run (suc (suc (2 * length nodes))) (run t) = λ t. forest_below-deeper (2 * length nodes) (suc (2 * length nodes)) le (run t) (settled_next (2 * length nodes) t (settled t)) in
-    let all = each_always (λ (t : TaskWork). forest_below run (suc (2 * length nodes)) (run t) ≡ forest_below run (suc (suc (2 * length nodes))) (run t)) below (tasks_of r) in
-    subst (λ k. forest_below run k r ≡ grown r (grow (λ t. forest_below run k (run t)) (tasks_of r))) (sym depth) (ap (grown r) (grow_alike (λ t. forest_below run (suc (2 * length nodes)) (run t)) (λ t. forest_below run (suc (suc (2 * length nodes))) (run t)) (tasks_of r) all))
+      let depth : 2 * length nodes + 2 ≡ suc (suc (2 * length nodes)) = omega arith in
+      let more : 2 * length nodes + 1 ≡ suc (2 * length nodes) = omega arith in
+      let le : 2 * length nodes ≤ suc (2 * length nodes) = omega arith in
+      let settled : (t : TaskWork) → Settled (suc (2 * length nodes)) t = λ t. subst (λ k. Settled k t) more (settled_first t) in
+      let below : (t : TaskWork) → forest_below run (suc (2 * length nodes)) (run t) ≡ forest_below run (suc (suc (2 * length nodes))) (run t) = λ t. forest_below-deeper (2 * length nodes) (suc (2 * length nodes)) le (run t) (settled_next (2 * length nodes) t (settled t)) in
+      let all = each_always (λ (t : TaskWork). forest_below run (suc (2 * length nodes)) (run t) ≡ forest_below run (suc (suc (2 * length nodes))) (run t)) below (tasks_of r) in
+      subst (λ k. forest_below run k r ≡ grown r (grow (λ t. forest_below run k (run t)) (tasks_of r))) (sym depth) (ap (grown r) (grow_alike (λ t. forest_below run (suc (2 * length nodes)) (run t)) (λ t. forest_below run (suc (suc (2 * length nodes))) (run t)) (tasks_of r) all))

@@ -2,3 +2,4 @@ mod Each
 mod Below
 mod ObjectDepth
 mod ForestDepth
+mod Texts

@@ -48,13 +48,15 @@ abbrev pub with_parts : Found → List Part → Found
 with_parts f ps = record {
   fragments = f.fragments ++ flat_map (λ p. (found_in p).fragments) ps;
   groups = f.groups ++ flat_map (λ p. (found_in p).groups) ps;
-  streams = f.streams ++ flat_map (λ p. (found_in p).streams) ps }
+  streams = f.streams ++ flat_map (λ p. (found_in p).streams) ps;
+}
 
 -- a list or an object is Bubble where a part is Bubble, else made of the parts' values; every part gives its faults, in order
 abbrev pub whole : (List Value → Value) → Found → List Part → Part
 whole make found ps = record {
   result = elim (list_any is_bubble ps) [ true ↦ bubble | false ↦ good (make (map value_in ps)) (with_parts found ps) ];
-  faults = flat_map (λ p. p.faults) ps }
+  faults = flat_map (λ p. p.faults) ps;
+}
 
 -- at a nullable type, Bubble becomes null
 abbrev pub soft : Part → Part
@@ -101,7 +103,7 @@ module _ (spot : Spot) (object : Row → List Key → Part) (streams : ℕ → �
   complete (non_null s) first c path = hard (fault_at spot null_message path) (complete s first c path)
   complete (named t) first (ref row) path = soft (object row path)
   complete (list s) (Some n) (items cs) path =
-    let all = cells_of cs in
-    soft (whole v.List (streams n (length all) path) (indexed (λ i c. complete s None c (path ++ Index i ∷ [])) 0 (take n all)))
+      let all = cells_of cs in
+      soft (whole v.List (streams n (length all) path) (indexed (λ i c. complete s None c (path ++ Index i ∷ [])) 0 (take n all)))
   complete (list s) None (items cs) path = soft (whole v.List no_found (indexed (λ i c. complete s None c (path ++ Index i ∷ [])) 0 (cells_of cs)))
   complete _ first c path = leaf spot c path

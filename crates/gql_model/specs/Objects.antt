@@ -83,8 +83,8 @@ module _ (w : World) (nodes : List Node) where
   -- an object by what collecting met at it
   abbrev pub object_from : (Row → List Occurrence → List Key → Part) → List FragId → Row → List Key → List Met → Part
   object_from below own row path ms =
-    let ds = merged ms in
-    fields_part below row path (record { fragments = fragments ms; groups = groups_at nodes own row path ds; streams = [] }) (filter (is_own nodes own) ds)
+      let ds = merged ms in
+      fields_part below row path (record { fragments = fragments ms; groups = groups_at nodes own row path ds; streams = [] }) (filter (is_own nodes own) ds)
 
   -- an object, at most so many fields deep
   abbrev pub object_part : ℕ → List FragId → Row → List Occurrence → List Key → Part

@@ -36,5 +36,6 @@ tags_of = filter_map (λ o. o.tag)
 -- none where one occurrence has no tag; else the outermost tags, each once, in ascending order of place
 abbrev pub owners : List Node → List Occurrence → List FragId
 owners nodes os = elim (list_any (λ o. is_none o.tag) os) [
-    true ↦ []
-  | false ↦ outermost nodes (ordered place_cmp (firsts same_fragment (tags_of os))) ]
+  | true ↦ []
+  | false ↦ outermost nodes (ordered place_cmp (firsts same_fragment (tags_of os)))
+]

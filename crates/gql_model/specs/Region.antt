@@ -39,9 +39,10 @@ failed fs = record { outcome = Failed; faults = fs; fragments = []; groups = [];
 -- failed where Bubble reaches the region's beginning; a failed region has nothing deferred
 abbrev pub region_of : Part → RegionResult
 region_of p = elim p.result [
-    bubble ↦ failed p.faults
+  | bubble ↦ failed p.faults
   | nothing ↦ record { outcome = Good v.Null; faults = p.faults; fragments = []; groups = []; streams = [] }
-  | good x f ↦ record { outcome = Good x; faults = p.faults; fragments = f.fragments; groups = ordered group_cmp f.groups; streams = ordered stream_cmp f.streams } ]
+  | good x f ↦ record { outcome = Good x; faults = p.faults; fragments = f.fragments; groups = ordered group_cmp f.groups; streams = ordered stream_cmp f.streams }
+]
 
 -- ---- items
 

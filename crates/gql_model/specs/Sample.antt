@@ -16,8 +16,8 @@ scalar = named 2
 abbrev pub kinds : List Kind
 kinds =
     record { name = codes "Query"; fields = (codes "hero", named 1) ∷ (codes "crew", list (non_null (named 1))) ∷ (codes "cast", list (named 1)) ∷ (codes "none", list (named 1)) ∷ []; possible = 0 ∷ [] }
-  ∷ record { name = codes "Person"; fields = (codes "id", non_null scalar) ∷ (codes "name", non_null scalar) ∷ (codes "age", scalar) ∷ (codes "boom", non_null scalar) ∷ []; possible = 1 ∷ [] }
-  ∷ []
+    ∷ record { name = codes "Person"; fields = (codes "id", non_null scalar) ∷ (codes "name", non_null scalar) ∷ (codes "age", scalar) ∷ (codes "boom", non_null scalar) ∷ []; possible = 1 ∷ [] }
+    ∷ []
 
 abbrev pub query : Row
 query = record { kind = 0; number = 0 }
@@ -29,12 +29,15 @@ abbrev pub persons : Cell
 persons = items (more (ref (person 0)) (more (ref (person 1)) (more (ref (person 2)) none)))
 
 abbrev pub tables : Tables
-tables = record { root = query; rows =
-    (record { id = codes "q"; cells = (codes "hero", ref (person 0)) ∷ (codes "crew", persons) ∷ (codes "cast", persons) ∷ (codes "none", items none) ∷ [] } ∷ [])
-  ∷ ( record { id = codes "1"; cells = (codes "id", text (codes "1")) ∷ (codes "name", text (codes "Luke")) ∷ (codes "age", integer (pos 20)) ∷ (codes "boom", error (codes "bang")) ∷ [] }
-    ∷ record { id = codes "2"; cells = (codes "id", text (codes "2")) ∷ (codes "name", text (codes "Leia")) ∷ (codes "boom", error (codes "bang")) ∷ [] }
-    ∷ record { id = codes "3"; cells = (codes "id", text (codes "3")) ∷ (codes "name", null) ∷ (codes "boom", error (codes "bang")) ∷ [] } ∷ [])
-  ∷ [] }
+tables = record {
+  root = query;
+  rows =
+      (record { id = codes "q"; cells = (codes "hero", ref (person 0)) ∷ (codes "crew", persons) ∷ (codes "cast", persons) ∷ (codes "none", items none) ∷ [] } ∷ [])
+      ∷ (record { id = codes "1"; cells = (codes "id", text (codes "1")) ∷ (codes "name", text (codes "Luke")) ∷ (codes "age", integer (pos 20)) ∷ (codes "boom", error (codes "bang")) ∷ [] }
+      ∷ record { id = codes "2"; cells = (codes "id", text (codes "2")) ∷ (codes "name", text (codes "Leia")) ∷ (codes "boom", error (codes "bang")) ∷ [] }
+      ∷ record { id = codes "3"; cells = (codes "id", text (codes "3")) ∷ (codes "name", null) ∷ (codes "boom", error (codes "bang")) ∷ [] } ∷ [])
+      ∷ [];
+}
 
 abbrev pub service : World
 service = world kinds tables by_name
@@ -60,12 +63,12 @@ plain = operation (1 ∷ []) ∷ field (codes "hero") 0 (2 ∷ []) 3 ∷ field (
 -- { hero { id ... @defer(label:"D") { name } } }
 abbrev pub one_deferred : List Node
 one_deferred = operation (1 ∷ []) ∷ field (codes "hero") 0 (2 ∷ 3 ∷ []) 3 ∷ field (codes "id") 1 [] 10
-  ∷ deferred (Some (codes "D")) 1 (4 ∷ []) 13 ∷ field (codes "name") 3 [] 37 ∷ []
+    ∷ deferred (Some (codes "D")) 1 (4 ∷ []) 13 ∷ field (codes "name") 3 [] 37 ∷ []
 
 -- { hero { id boom ... @defer { name } } }
 abbrev pub bubbling : List Node
 bubbling = operation (1 ∷ []) ∷ field (codes "hero") 0 (2 ∷ 3 ∷ 4 ∷ []) 3 ∷ field (codes "id") 1 [] 10 ∷ field (codes "boom") 1 [] 13
-  ∷ deferred None 1 (5 ∷ []) 18 ∷ field (codes "name") 4 [] 31 ∷ []
+    ∷ deferred None 1 (5 ∷ []) 18 ∷ field (codes "name") 4 [] 31 ∷ []
 
 -- { crew { name } }
 abbrev pub null_item : List Node
@@ -74,8 +77,8 @@ null_item = operation (1 ∷ []) ∷ field (codes "crew") 0 (2 ∷ []) 3 ∷ fie
 -- { hero { id ... @defer(label:"A"){ name boom } ... @defer(label:"B"){ name age } } }
 abbrev pub shared : List Node
 shared = operation (1 ∷ []) ∷ field (codes "hero") 0 (2 ∷ 3 ∷ 6 ∷ []) 3 ∷ field (codes "id") 1 [] 10
-  ∷ deferred (Some (codes "A")) 1 (4 ∷ 5 ∷ []) 13 ∷ field (codes "name") 3 [] 36 ∷ field (codes "boom") 3 [] 41
-  ∷ deferred (Some (codes "B")) 1 (7 ∷ 8 ∷ []) 48 ∷ field (codes "name") 6 [] 71 ∷ field (codes "age") 6 [] 76 ∷ []
+    ∷ deferred (Some (codes "A")) 1 (4 ∷ 5 ∷ []) 13 ∷ field (codes "name") 3 [] 36 ∷ field (codes "boom") 3 [] 41
+    ∷ deferred (Some (codes "B")) 1 (7 ∷ 8 ∷ []) 48 ∷ field (codes "name") 6 [] 71 ∷ field (codes "age") 6 [] 76 ∷ []
 
 -- { crew @stream(initialCount:1) { name } }
 abbrev pub stream : List Node
@@ -84,3 +87,8 @@ stream = operation (1 ∷ []) ∷ streamed (codes "crew") 1 0 (2 ∷ []) 3 ∷ f
 -- { hero { __typename } }
 abbrev pub type_names : List Node
 type_names = operation (1 ∷ []) ∷ field (codes "hero") 0 (2 ∷ []) 3 ∷ field (codes "__typename") 1 [] 10 ∷ []
+
+-- { hero { id ... @defer(label:"D") { boom } } }
+abbrev pub failing : List Node
+failing = operation (1 ∷ []) ∷ field (codes "hero") 0 (2 ∷ 3 ∷ []) 3 ∷ field (codes "id") 1 [] 10
+    ∷ deferred (Some (codes "D")) 1 (4 ∷ []) 13 ∷ field (codes "boom") 3 [] 37 ∷ []

@@ -1,5 +1,5 @@
 -- What worked operations over the small service give.
-use Rattle.std.specs.Prelude.{◌≡◌, ℕ, List, [], ◌∷◌, map, Option, Some, None, codes}
+use Rattle.std.specs.Prelude.{ℕ, List, [], ◌∷◌, map, Option, Some}
 use Rattle.gql_tree.specs.declared.Key.{Key}
 use Rattle.gql_tree.specs.declared.Value.{Value}
 use Rattle.gql_tree.specs.declared.Value.TheVariants as v
@@ -9,6 +9,7 @@ use Rattle.gql_tree.specs.declared.RegionResult.{RegionResult}
 use Rattle.gql_tree.specs.declared.Payload.{Payload}
 use Rattle.gql_tree.specs.Forest.{tasks_of}
 use Rattle.gql_tree.specs.FirstPayloads.{first_payloads}
+use Rattle.gql_tree.specs.PayloadText.{payload_text}
 use Rattle.gql_model.specs.declared.operation.Node.{Node}
 use Rattle.gql_model.specs.Region.{initial_region, task_region}
 use Rattle.gql_model.specs.Operations.{forest}
@@ -29,6 +30,9 @@ faults nodes = map (λ r. r.faults) (next_regions nodes)
 
 abbrev pub payloads : List Node → List Payload
 payloads nodes = first_payloads (forest service nodes query)
+
+abbrev pub texts : List Node → List (List ℕ)
+texts nodes = map payload_text (payloads nodes)
 
 -- ---- short forms
 

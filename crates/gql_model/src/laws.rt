@@ -10,5 +10,4 @@ pub fn bounds_are_never_met()
     ensures ancestors { (nodes : List Node) → IsNumbered nodes → AncestorsUnfold nodes }
     ensures objects { (w : World) (nodes : List Node) → IsNumbered nodes → ObjectsUnfold w nodes }
     ensures forests { (w : World) (nodes : List Node) → IsNumbered nodes → ForestsUnfold w nodes }
-{
-}
+{}

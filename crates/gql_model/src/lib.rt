@@ -17,4 +17,4 @@ pub use laws::bounds_are_never_met;
 pub use operation::{DeferUse, Node, NodeKind, Operation, StreamUse, Variables};
 pub use schema::{FieldDef, InputDef, Schema, TypeDef, TypeKind, TypeNo, TypeUse};
 pub use syntax::{Argument, Literal};
-pub use worked::{worked_payloads, worked_regions};
+pub use worked::{worked_regions, worked_texts};

@@ -1,10 +1,10 @@
-ghost use Rattle.std.specs.Prelude.{◌≡◌, pos, true, false, [], ◌∷◌, Some, None, codes, decimal};
+ghost use Rattle.std.specs.Prelude.{◌≡◌, pos, [], ◌∷◌, Some, codes, length};
 ghost use Rattle.gql_tree.specs.declared.Key.TheVariants.{Name, Index};
 ghost use Rattle.gql_tree.specs.declared.Value.TheVariants as v;
 ghost use Rattle.gql_tree.specs.declared.Outcome.TheVariants.{Good, Failed};
-ghost use Rattle.gql_tree.specs.declared.Content.TheVariants as c;
-ghost use Rattle.gql_model.specs.Sample.{plain as plain_nodes, one_deferred, bubbling, null_item, shared, stream, type_names};
-ghost use Rattle.gql_model.specs.Worked.{initial, outcomes, faults, payloads, one, fault, grouped, labelled, counted};
+ghost use Rattle.gql_tree.specs.Frame.{frame};
+ghost use Rattle.gql_model.specs.Sample.{plain as plain_nodes, one_deferred, bubbling, null_item, shared, stream, type_names, failing};
+ghost use Rattle.gql_model.specs.Worked.{initial, outcomes, faults, texts, one, fault, grouped, labelled, counted};
 
 /// The regions that worked operations have by the definitions.
 pub fn worked_regions()
@@ -43,42 +43,29 @@ pub fn worked_regions()
     // { hero { __typename } }
     ensures type_name { (initial type_names).outcome
         ≡ Good (one (codes "hero") (one (codes "__typename") (v.Text (codes "Person")))) }
-{
-}
+{}
 
-/// The payloads that worked operations have by the definitions.
-pub fn worked_payloads()
+/// The texts of the payloads that worked operations have by the definitions.
+pub fn worked_texts()
+    // { hero { id } }
+    ensures plain { texts plain_nodes ≡ codes "{\"data\":{\"hero\":{\"id\":\"1\"}}}" ∷ [] }
+
     // { hero { id ... @defer(label:"D") { name } } }
-    ensures deferred { payloads one_deferred
-        ≡ record {
-            initial = Some (one (codes "hero") (one (codes "id") (v.Text (codes "1"))));
-            errors = [];
-            pending = record { id = decimal 0; path = record { keys = Name (codes "hero") ∷ [] }; label = Some (codes "D") } ∷ [];
-            incremental = [];
-            completed = [];
-            has_next = Some true }
-        ∷ record {
-            initial = None;
-            errors = [];
-            pending = [];
-            incremental = record {
-                id = decimal 0;
-                sub_path = record { keys = [] };
-                content = c.Fields (one (codes "name") (v.Text (codes "Luke")));
-                errors = [] } ∷ [];
-            completed = record { id = decimal 0; errors = [] } ∷ [];
-            has_next = Some false }
-        ∷ [] }
+    ensures deferred { texts one_deferred
+        ≡ codes "{\"data\":{\"hero\":{\"id\":\"1\"}},\"hasNext\":true,\"pending\":[{\"id\":\"0\",\"label\":\"D\",\"path\":[\"hero\"]}]}"
+        ∷ codes "{\"completed\":[{\"id\":\"0\"}],\"hasNext\":false,\"incremental\":[{\"data\":{\"name\":\"Luke\"},\"id\":\"0\"}]}" ∷ [] }
+    ensures deferred_body { length (frame (texts one_deferred)) ≡ 305 }
 
     // { hero { id boom ... @defer { name } } }
-    ensures bubbled { payloads bubbling
-        ≡ record {
-            initial = Some (one (codes "hero") v.Null);
-            errors = fault (codes "bang") 13 (Name (codes "hero") ∷ Name (codes "boom") ∷ []) ∷ [];
-            pending = [];
-            incremental = [];
-            completed = [];
-            has_next = None }
-        ∷ [] }
-{
-}
+    ensures bubbled { texts bubbling
+        ≡ codes "{\"data\":{\"hero\":null},\"errors\":[{\"locations\":[{\"column\":13,\"line\":1}],\"message\":\"bang\",\"path\":[\"hero\",\"boom\"]}]}" ∷ [] }
+
+    // { crew { name } }
+    ensures null_item { texts null_item
+        ≡ codes "{\"data\":{\"crew\":null},\"errors\":[{\"locations\":[{\"column\":10,\"line\":1}],\"message\":\"Null in a non-null position\",\"path\":[\"crew\",2,\"name\"]}]}" ∷ [] }
+
+    // { hero { id ... @defer(label:"D") { boom } } }: the deferred piece fails, and its error is in its completed record alone
+    ensures failing { texts failing
+        ≡ codes "{\"data\":{\"hero\":{\"id\":\"1\"}},\"hasNext\":true,\"pending\":[{\"id\":\"0\",\"label\":\"D\",\"path\":[\"hero\"]}]}"
+        ∷ codes "{\"completed\":[{\"errors\":[{\"locations\":[{\"column\":37,\"line\":1}],\"message\":\"bang\",\"path\":[\"hero\",\"boom\"]}],\"id\":\"0\"}],\"hasNext\":false}" ∷ [] }
+{}

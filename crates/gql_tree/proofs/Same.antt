@@ -1,9 +1,8 @@
 -- Equality by layers is equality of the maps.
-use Rattle.std.proofs.Common.{◌≡◌, ℕ, zero, suc, ◌<◌, ◌↔◌, List, [], ◌∷◌, length, get_or, refl, sym, subst, ◌∙◌, ap, Bool, true, false, cond, Some, None, Option, IsSome, IsTrue, arith}
+use Rattle.std.proofs.Common.{◌≡◌, ℕ, zero, suc, ◌↔◌, List, [], ◌∷◌, length, refl, sym, subst, ◌∙◌, ap, Bool, true, false, cond, Some, None, Option, IsSome, IsTrue}
 use Rattle.std.specs.Str.{bytes_eq}
 use Rattle.std.specs.Prelude.{slice_get, option_and_then, option_map}
 use Rattle.std.proofs.lemmas.Slice.Eq.{bytes_eq-Decides}
-use Rattle.std.proofs.lemmas.Option.{slice_get-get_or}
 use Rattle.gql_tree.specs.declared.path.Key.{Key}
 use Rattle.gql_tree.specs.declared.path.Key.TheVariants.{Name, Index}
 use Rattle.gql_tree.specs.declared.value.Value.{Value, out-Value}
@@ -11,7 +10,7 @@ use Rattle.gql_tree.specs.declared.value.Value.TheOpen.{Value-F}
 use Rattle.gql_tree.specs.declared.value.Value.TheVariants.{outs-List}
 use Rattle.gql_tree.specs.declared.value.Value.TheVariants as Value
 use Rattle.gql_tree.specs.declared.fields.Named.{Named}
-use Rattle.gql_tree.specs.Flat.{Layer, list, mark_of, items_of, members_of, below, find, flat}
+use Rattle.gql_tree.specs.Flat.{Layer, list, mark_of, items_of, members_of, below, find}
 use Rattle.gql_tree.specs.Names.{named, has_name, apart}
 use Rattle.gql_tree.proofs.Names.{either, both}
 use Rattle.gql_tree.specs.Same.{SameFlat, SameMaybe, SameItems, SameLayer, FoundIn, NamedIn}

@@ -14,7 +14,6 @@ use Rattle.gql_tree.specs.declared.delivery.TaskWork.TheVariants.{Fields, Item}
 use Rattle.gql_tree.specs.declared.delivery.Pending.{Pending}
 use Rattle.gql_tree.specs.declared.delivery.Entry.{Entry}
 use Rattle.gql_tree.specs.declared.delivery.Content.TheVariants as c
-use Rattle.gql_tree.specs.declared.delivery.Completed.{Completed}
 use Rattle.gql_tree.specs.declared.delivery.Payload.{Payload}
 use Rattle.gql_tree.specs.Keys.{same_fragment}
 use Rattle.gql_tree.specs.Forest.{Forest, Branches, none, more, region, branches}

@@ -1,6 +1,6 @@
 -- What stands in a value: the finite map from its paths to their marks.
 -- Source: the response format of the GraphQL standard, section 7.
-use Rattle.std.specs.Prelude.{◌≡◌, ℕ, ℤ, Bool, List, [], ◌∷◌, Option, Some, length, slice_get, option_map, option_and_then}
+use Rattle.std.specs.Prelude.{ℕ, ℤ, Bool, List, [], ◌∷◌, Option, Some, length, slice_get, option_map, option_and_then}
 use Rattle.gql_tree.specs.declared.path.Key.{Key}
 use Rattle.gql_tree.specs.declared.path.Key.TheVariants.{Name, Index}
 use Rattle.gql_tree.specs.declared.fields.Named.{Named}

@@ -1,4 +1,4 @@
-use Rattle.std.proofs.Common.{◌≡◌, sym, ◌∙◌, arith}
+use Rattle.std.proofs.Common.{sym, ◌∙◌, arith}
 use Rattle.gql_tree.proofs.Order.{path_cmp_end}
 use Rattle.gql_tree.proofs.path.compare_keys.Goals as goal
 

@@ -1,4 +1,3 @@
-use Rattle.std.proofs.Common.{◌≡◌, rules, ap, arith}
 use Rattle.gql_tree.proofs.Same.{same_from_layer, layer_from_same, same_length, value_of_items}
 use Rattle.gql_tree.proofs.value.+same.Goals as goal
 

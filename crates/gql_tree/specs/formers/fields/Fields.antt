@@ -10,10 +10,9 @@ use denote.Hole.Fix.{over as over_row}
 use denote.Hole.Carrier.{listed}
 use denote.Param.Weighed.{Weighed, w_list, w_via, w_pair, w_const}
 use denote.Model.Placed.{view_places}
-use Rattle.std.specs.Prelude.{ℕ, Bool, true, IsTrue, not, ◌||◌, ◌&&◌}
+use Rattle.std.specs.Prelude.{ℕ, not, ◌||◌, ◌&&◌}
 use Rattle.std.specs.Str.{bytes_eq}
 use Rattle.std.specs.formers.vec.Vec as in_vec
-use Rattle.std.specs.declared.vec.Vec.{Vec}
 use Rattle.std.specs.declared.alloc.Global.{Global}
 use Rattle.std.specs.contracts.alloc.Global as global
 use Rattle.std.specs.contracts.impls.GlobalAllocator.TheImpl as allocator

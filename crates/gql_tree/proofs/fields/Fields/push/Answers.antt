@@ -1,4 +1,4 @@
-use Rattle.std.proofs.Common.{◌≡◌, sym, ◌∙◌, ap}
+use Rattle.std.proofs.Common.{◌∙◌, ap}
 use Rattle.gql_tree.specs.Names.{has_name}
 use Rattle.gql_tree.proofs.Names.{apart_push}
 use Rattle.gql_tree.proofs.fields.Fields.push.Goals as goal

@@ -1,4 +1,4 @@
-use Rattle.std.proofs.Common.{◌≡◌, ◌∙◌, ap, take, arith}
+use Rattle.std.proofs.Common.{◌∙◌, ap, take, arith}
 use Rattle.gql_tree.specs.Names.{has_name, apart}
 use Rattle.gql_tree.proofs.Names.{has_name-take}
 use Rattle.gql_tree.proofs.value.Value.+copied.Goals as goal

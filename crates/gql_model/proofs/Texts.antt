@@ -1,0 +1,55 @@
+-- The texts of worked operations, by computing.
+use Rattle.std.specs.Prelude.{◌≡◌, refl, [], ◌∷◌, length, codes}
+use Rattle.std.proofs.Common.{ap, arith}
+use Rattle.std.proofs.lemmas.Fmt.{decimal_digit}
+use Rattle.std.specs.Fmt.{digits}
+use Rattle.std.specs.Prelude.{decimal}
+use Rattle.json.specs.Print.{escape_byte}
+use Rattle.gql_tree.specs.Frame.{frame}
+use Rattle.gql_tree.proofs.Json.{data_Null, data_Text, data_Object}
+use Rattle.gql_model.specs.Sample.{plain, one_deferred, bubbling, null_item, failing}
+use Rattle.gql_model.specs.Worked.{texts}
+
+decimal-0 : decimal 0 ≡ 48 ∷ []
+decimal-0 = decimal_digit 0 (omega arith)
+
+decimal-1 : decimal 1 ≡ 49 ∷ []
+decimal-1 = decimal_digit 1 (omega arith)
+
+decimal-2 : decimal 2 ≡ 50 ∷ []
+decimal-2 = decimal_digit 2 (omega arith)
+
+decimal-10 : decimal 10 ≡ 49 ∷ 48 ∷ []
+unfolding digits
+decimal-10 = refl
+
+decimal-13 : decimal 13 ≡ 49 ∷ 51 ∷ []
+unfolding digits
+decimal-13 = refl
+
+decimal-37 : decimal 37 ≡ 51 ∷ 55 ∷ []
+unfolding digits
+decimal-37 = refl
+
+pub texts-plain : texts plain ≡ codes "{\"data\":{\"hero\":{\"id\":\"1\"}}}" ∷ []
+unfolding escape_byte
+texts-plain = simp (data_Object, data_Text) refl
+
+pub texts-one_deferred : texts one_deferred ≡ codes "{\"data\":{\"hero\":{\"id\":\"1\"}},\"hasNext\":true,\"pending\":[{\"id\":\"0\",\"label\":\"D\",\"path\":[\"hero\"]}]}" ∷ codes "{\"completed\":[{\"id\":\"0\"}],\"hasNext\":false,\"incremental\":[{\"data\":{\"name\":\"Luke\"},\"id\":\"0\"}]}" ∷ []
+unfolding escape_byte
+texts-one_deferred = simp (data_Object, data_Text, decimal-0) refl
+
+pub length-one_deferred : length (frame (texts one_deferred)) ≡ 305
+length-one_deferred = ap (λ ts. length (frame ts)) texts-one_deferred
+
+pub texts-bubbling : texts bubbling ≡ codes "{\"data\":{\"hero\":null},\"errors\":[{\"locations\":[{\"column\":13,\"line\":1}],\"message\":\"bang\",\"path\":[\"hero\",\"boom\"]}]}" ∷ []
+unfolding escape_byte
+texts-bubbling = simp (data_Object, data_Null, decimal-1, decimal-13) refl
+
+pub texts-null_item : texts null_item ≡ codes "{\"data\":{\"crew\":null},\"errors\":[{\"locations\":[{\"column\":10,\"line\":1}],\"message\":\"Null in a non-null position\",\"path\":[\"crew\",2,\"name\"]}]}" ∷ []
+unfolding escape_byte
+texts-null_item = simp (data_Object, data_Null, decimal-1, decimal-2, decimal-10) refl
+
+pub texts-failing : texts failing ≡ codes "{\"data\":{\"hero\":{\"id\":\"1\"}},\"hasNext\":true,\"pending\":[{\"id\":\"0\",\"label\":\"D\",\"path\":[\"hero\"]}]}" ∷ codes "{\"completed\":[{\"errors\":[{\"locations\":[{\"column\":37,\"line\":1}],\"message\":\"bang\",\"path\":[\"hero\",\"boom\"]}],\"id\":\"0\"}],\"hasNext\":false}" ∷ []
+unfolding escape_byte
+texts-failing = simp (data_Object, data_Text, decimal-0, decimal-1, decimal-37) refl
