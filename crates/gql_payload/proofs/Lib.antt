@@ -1,0 +1,4 @@
+pub mod Contents
+pub mod Members
+pub mod Plain
+pub mod Line
