@@ -1,0 +1,35 @@
+-- The piece of one text in a multipart body, and the pieces of a whole body.
+use Rattle.std.specs.Prelude.{ℕ, List, [], ◌∷◌, ◌++◌, flat_map, Bool, true, false, codes}
+use Rattle.gql_tree.specs.Frame.{mark, piece, crlf}
+
+-- what stands before the first piece
+abbrev pub opening : Bool → List ℕ
+opening true = mark
+opening false = []
+
+-- what closes the mark of the last piece
+abbrev pub closing : Bool → List ℕ
+closing true = codes "--" ++ crlf
+closing false = []
+
+-- one piece: a mark comes before it where it is the first, its own mark is closed where it is the last
+abbrev pub framed : Bool → Bool → List ℕ → List ℕ
+framed first last text = opening first ++ (piece text ++ closing last)
+
+-- the pieces of texts in their order, the last text last
+abbrev pub pieces_of : Bool → List (List ℕ) → List (List ℕ)
+pieces_of first [] = []
+pieces_of first (t ∷ []) = framed first true t ∷ []
+pieces_of first (t ∷ u ∷ ts) = framed first false t ∷ pieces_of false (u ∷ ts)
+
+-- ---- a body that grows, a piece at a time
+
+-- whether the next piece is the first
+abbrev pub at_first : List (List ℕ) → Bool
+at_first [] = true
+at_first (t ∷ ts) = false
+
+-- what has been sent where these texts were sent and more will come
+abbrev pub so_far : List (List ℕ) → List ℕ
+so_far [] = []
+so_far (t ∷ ts) = mark ++ flat_map piece (t ∷ ts)
