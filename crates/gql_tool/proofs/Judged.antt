@@ -1,0 +1,51 @@
+-- A command whose files are there, and nothing outside fails.
+use Rattle.std.proofs.Common.{◌≡◌, ℕ, ◌≤◌, List, length, Option, None, Some, subst, sym, refl, inl, inr, arith}
+use Rattle.gql_io.specs.Files.{Files}
+use Rattle.gql_tool.specs.declared.status.Status.{Status}
+use Rattle.gql_tool.specs.declared.status.Status.TheVariants.{Done, Refused, ReadFault, WriteFault, NoMemory}
+use Rattle.gql_tool.specs.declared.document.HeroDocument.{HeroDocument}
+use Rattle.gql_tool.specs.declared.tables.HeroTables.{HeroTables}
+use Rattle.gql_tool.specs.Outcome.{Outcome, Ways, AfterFile, file_limit}
+use Rattle.gql_tool.specs.Local.{built, Answered, LocalWays}
+use Rattle.gql_tool.specs.Meets.{Meets, MeetsTold, IsJudged, HasFiles, Whole}
+
+-- the file leads on
+leads_on : (file : Option (List ℕ)) (name bytes : List ℕ) (next : List ℕ → Ways) (o : Outcome) → file ≡ Some bytes → length bytes ≤ file_limit → AfterFile file name next o
+    → next bytes o
+leads_on file name bytes next o is within after = here (subst (λ (f : Option (List ℕ)). AfterFile f name next o) is after)
+  where
+    here : AfterFile (Some bytes) name next o → next bytes o
+    here (inl over) = absurd (omega (arith, within, over.0))
+    here (inr right) = right.1
+
+answered : (request : Option (HeroTables × HeroDocument)) (o : Outcome) → Answered request o → IsJudged o.status
+answered None o is = subst (λ (p : Outcome). IsJudged p.status) (sym is) tt
+answered (Some x) o is = subst (λ (p : Outcome). IsJudged p.status) (sym is) tt
+
+-- the right outcomes are those of the request
+right : (files : Files) (schema tables document vars : List ℕ) (o : Outcome) → HasFiles (Some files) schema tables document → LocalWays schema tables document vars files o
+    → IsJudged o.status
+right files schema tables document vars o has ways =
+    let s = has.0 in
+    let t = has.1 in
+    let d = has.2 in
+    let at_schema = leads_on (files schema) schema s.0 (λ s. AfterFile (files tables) tables (λ t. AfterFile (files document) document (λ d. Answered (built vars s t d)))) o s.1 s.2 ways in
+    let at_tables = leads_on (files tables) tables t.0 (λ t. AfterFile (files document) document (λ d. Answered (built vars s.0 t d))) o t.1 t.2 at_schema in
+    let at_document = leads_on (files document) document d.0 (λ d. Answered (built vars s.0 t.0 d)) o d.1 d.2 at_tables in
+    answered (built vars s.0 t.0 d.0) o at_document
+
+pub judged : (told : Option Files) (schema tables document vars : List ℕ) (status : Status) (a b : Option (List ℕ)) → HasFiles told schema tables document
+    → MeetsTold told (LocalWays schema tables document vars) status a b → ¬ (status ≡ ReadFault) → ¬ (status ≡ WriteFault) → IsJudged status
+judged None schema tables document vars status a b has meets no_read no_write = absurd has
+judged (Some files) schema tables document vars status a b has meets no_read no_write = by_status status meets no_read no_write
+  where
+    whole : (s : Status) → Whole (LocalWays schema tables document vars files) s a b → IsJudged s
+    whole s w = subst IsJudged (sym w.2) (right files schema tables document vars w.0 has w.1)
+
+    by_status : (s : Status) → Meets (LocalWays schema tables document vars files) s a b → ¬ (s ≡ ReadFault) → ¬ (s ≡ WriteFault) → IsJudged s
+    by_status ReadFault m no_read no_write = absurd (no_read refl)
+    by_status WriteFault m no_read no_write = absurd (no_write refl)
+    by_status NoMemory m no_read no_write = tt
+    by_status Done m no_read no_write = tt
+    by_status Refused m no_read no_write = tt
+    by_status other m no_read no_write = whole other m

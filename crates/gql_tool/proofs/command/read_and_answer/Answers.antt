@@ -1,0 +1,47 @@
+use Rattle.std.proofs.Common.{ℕ, List}
+use Rattle.gql_io.specs.Files.{Files}
+use Rattle.gql_tool.specs.Outcome.{Ways, AfterFile}
+use Rattle.gql_tool.specs.Local.{built, Answered}
+use Rattle.gql_tool.proofs.Files.{stops_at, goes_on, at_end, at_work, same_request}
+use Rattle.gql_tool.proofs.command.read_and_answer.Goals as goal
+
+-- what follows each file
+abbrev after_document : (vars schema tables : List ℕ) → Files → List ℕ → Ways
+after_document vars s t files d = Answered (built vars s t d)
+
+abbrev after_tables : (document vars schema : List ℕ) → Files → List ℕ → Ways
+after_tables document vars s files t = AfterFile (files document) document (λ d. Answered (built vars s t d))
+
+abbrev after_schema : (tables document vars : List ℕ) → Files → List ℕ → Ways
+after_schema tables document vars files s = AfterFile (files tables) tables (λ t. AfterFile (files document) document (λ d. Answered (built vars s t d)))
+
+pub returns-in_err-schema-clause-meets : goal.returns-in_err-schema-clause-meets
+returns-in_err-schema-clause-meets g c =
+    at_end _ _ c.from_residual.result _ _ _ c.from_residual.ensures.1
+    (stops_at _ c.args.schema.now (after_schema c.args.tables.now c.args.document.now c.args.vars.now) _ _ _ c.in_err-schema.ensures.stops)
+
+pub returns-in_err-tables-clause-meets : goal.returns-in_err-tables-clause-meets
+returns-in_err-tables-clause-meets g c =
+    at_end _ _ c.from_residual-in_err-tables.result _ _ _ c.from_residual-in_err-tables.ensures.1
+    (goes_on _ _ c.args.schema.now c.in_ok-schema.schema (after_schema c.args.tables.now c.args.document.now c.args.vars.now) _ _ _ _ c.in_ok-schema.ensures.same c.in_ok-schema.ensures.found
+    c.in_ok-schema.ensures.within c.in_ok-schema.ensures.kept
+    (stops_at _ c.args.tables.now (after_tables c.args.document.now c.args.vars.now c.in_ok-schema.schema) _ _ _ c.in_err-tables.ensures.stops))
+
+pub returns-in_err-document-clause-meets : goal.returns-in_err-document-clause-meets
+returns-in_err-document-clause-meets g c =
+    at_end _ _ c.from_residual-in_err-document.result _ _ _ c.from_residual-in_err-document.ensures.1
+    (goes_on _ _ c.args.schema.now c.in_ok-schema.schema (after_schema c.args.tables.now c.args.document.now c.args.vars.now) _ _ _ _ c.in_ok-schema.ensures.same c.in_ok-schema.ensures.found
+    c.in_ok-schema.ensures.within c.in_ok-schema.ensures.kept
+    (goes_on _ _ c.args.tables.now c.in_ok-tables.tables (after_tables c.args.document.now c.args.vars.now c.in_ok-schema.schema) _ _ _ _ c.in_ok-tables.ensures.same c.in_ok-tables.ensures.found
+    c.in_ok-tables.ensures.within c.in_ok-tables.ensures.kept
+    (stops_at _ c.args.document.now (after_document c.args.vars.now c.in_ok-schema.schema c.in_ok-tables.tables) _ _ _ c.in_err-document.ensures.stops)))
+
+pub returns-clause-meets : goal.returns-clause-meets
+returns-clause-meets g c =
+    goes_on _ _ c.args.schema.now c.in_ok-schema.schema (after_schema c.args.tables.now c.args.document.now c.args.vars.now) _ _ _ _ c.in_ok-schema.ensures.same c.in_ok-schema.ensures.found
+    c.in_ok-schema.ensures.within c.in_ok-schema.ensures.kept
+    (goes_on _ _ c.args.tables.now c.in_ok-tables.tables (after_tables c.args.document.now c.args.vars.now c.in_ok-schema.schema) _ _ _ _ c.in_ok-tables.ensures.same c.in_ok-tables.ensures.found
+    c.in_ok-tables.ensures.within c.in_ok-tables.ensures.kept
+    (goes_on _ _ c.args.document.now c.in_ok-document.document (after_document c.args.vars.now c.in_ok-schema.schema c.in_ok-tables.tables) _ _ _ _ c.in_ok-document.ensures.same c.in_ok-document.ensures.found
+    c.in_ok-document.ensures.within c.in_ok-document.ensures.kept
+    (at_work _ _ _ _ _ (same_request c.args.vars.now _ _ _ c.in_ok-schema.schema c.in_ok-tables.tables c.in_ok-document.document _ _ _ c.as_slice.ensures c.as_slice-2.ensures c.as_slice-3.ensures c.answer.ensures.meets))))

@@ -1,0 +1,38 @@
+use Rattle.std.proofs.Common.{◌≡◌, ◌<◌, List, [], ◌∷◌, map, length, Some, sym, ap, ◌∙◌, subst}
+use Rattle.std.specs.Prelude.{slice_get}
+use Rattle.std.proofs.lemmas.Option.{slice_get_read}
+use Rattle.gql_tree.specs.declared.Fault.{Fault}
+use Rattle.gql_tree.specs.declared.Payload.{Payload}
+use Rattle.gql_tree.specs.declared.Value.TheVariants as v
+use Rattle.gql_tree.specs.PayloadText.{payload_text}
+use Rattle.gql_tree.specs.Frame.{frame}
+use Rattle.gql_io.specs.Told.{Puts}
+use Rattle.gql_tool.specs.declared.tables.Person.{Person}
+use Rattle.gql_tool.specs.Hero.{single}
+use Rattle.gql_tool.proofs.HeroPayloads.{payloads-null, payloads-error, payloads-person}
+use Rattle.gql_tool.proofs.deliver.put_payloads.Goals as goal
+
+pub returns-in-Null-clause-sent : goal.returns-in-Null-clause-sent
+returns-in-Null-clause-sent g c =
+    let same = ap (λ (fs : List Fault). (let ps : List Payload = single v.Null fs ∷ [] in ps)) c.new.ensures in
+    subst (λ (ps : List Payload). Puts (g.O.Sink.sent c.args.output.now) (g.O.Sink.sent c.deliver_single.new.output) (frame (map payload_text ps)) c.deliver_single.result)
+    (same ∙ sym (payloads-null c.args.tables.now c.args.document.now c.in-Null.is)) c.deliver_single.ensures.sent
+
+pub returns-in_ok-faults-in-Error-clause-sent : goal.returns-in_ok-faults-in-Error-clause-sent
+returns-in_ok-faults-in-Error-clause-sent g c =
+    let same = ap (λ (fs : List Fault). (let ps : List Payload = single v.Null fs ∷ [] in ps)) c.in_ok-faults-in-Error.ensures in
+    subst (λ (ps : List Payload). Puts (g.O.Sink.sent c.args.output.now) (g.O.Sink.sent c.deliver_single-in-Error.new.output) (frame (map payload_text ps)) c.deliver_single-in-Error.result)
+    (same ∙ sym (payloads-error c.args.tables.now c.args.document.now c.in-Error.message c.in-Error.is)) c.deliver_single-in-Error.ensures.sent
+
+pub returns-in-Ref-clause-sent : goal.returns-in-Ref-clause-sent
+returns-in-Ref-clause-sent g c =
+    let t = c.args.tables.now in
+    let d = c.args.document.now in
+    let n = c.in-Ref.number in
+    let p = c.index-persons-number.result in
+    let within : n < length t.persons = c.requires.stands n c.in-Ref.is in
+    let same : length c.as_slice-persons.result.now ≡ length t.persons = ap length c.as_slice-persons.ensures in
+    let at : slice_get c.as_slice-persons.result.now n ≡ Some p = slice_get_read c.as_slice-persons.result.now (length t.persons) n p (sym same) within c.index-persons-number.is in
+    let found : slice_get t.persons n ≡ Some p = ap (λ (ps : List Person). slice_get ps n) (sym c.as_slice-persons.ensures) ∙ at in
+    subst (λ (ps : List Payload). Puts (g.O.Sink.sent c.args.output.now) (g.O.Sink.sent c.deliver_person.new.output) (frame (map payload_text ps)) c.deliver_person.result)
+    (sym (payloads-person t d n p found c.in-Ref.is c.requires.once)) c.deliver_person.ensures.sent

@@ -1,0 +1,5 @@
+use Rattle.gql_tool.proofs.Reading.{document-once}
+use Rattle.gql_tool.proofs.request.document_of.Goals as goal
+
+pub returns-clause-once : goal.returns-clause-once
+returns-clause-once c = document-once c.args.bytes.now _ c.read_document.ensures

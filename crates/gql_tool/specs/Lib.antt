@@ -1,0 +1,11 @@
+pub mod Statuses
+pub mod Words
+pub mod Outcome
+pub mod Meets
+pub mod Local
+pub mod Document
+pub mod Operation
+pub mod HeroTables
+pub mod WorkedTables
+pub mod Service
+pub mod Hero

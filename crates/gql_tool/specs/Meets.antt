@@ -1,0 +1,111 @@
+-- How a status and what was written meet what the files determine.
+use Rattle.std.specs.Prelude.{◌≡◌, ◌≤◌, ◌<◌, ◌⊎◌, List, ℕ, length, Option, None, Some, ⊤, Result, Ok, Err, codes}
+use Rattle.std.specs.Io.KnownBytes.{Appends, Keeps}
+use Rattle.gql_io.specs.Told.{AppendsPrefix}
+use Rattle.gql_io.specs.Files.{Files}
+use Rattle.gql_tool.specs.declared.status.Status.{Status}
+use Rattle.gql_tool.specs.declared.status.Status.TheVariants.{Done, Refused, Usage, ReadFault, WriteFault, NoMemory, StreamRefused, NoFile, DoorFault, InputsRefused, TooLong}
+use Rattle.gql_tool.specs.Outcome.{Outcome, Ways, names, file_limit}
+use Rattle.gql_tool.specs.Local.{LocalWays}
+use Rattle.gql_tool.specs.Words.{Form, LocalForm}
+
+-- a right outcome's status, and all of its bytes
+abbrev pub Whole : Ways → Status → Option (List ℕ) → Option (List ℕ) → Type 0
+Whole ways status old new = (o : Outcome) × ways o × (status ≡ o.status) × Appends old new o.bytes
+
+-- a prefix of a right outcome's bytes
+abbrev pub Front : Ways → Option (List ℕ) → Option (List ℕ) → Type 0
+Front ways old new = (o : Outcome) × ways o × AppendsPrefix old new o.bytes
+
+-- a whole outcome; but after a fault of the shelf nothing, after a fault of the output a prefix, and after want of
+-- memory one of these two
+abbrev pub Meets : Ways → Status → Option (List ℕ) → Option (List ℕ) → Type 0
+Meets ways ReadFault old new = Keeps old new
+Meets ways WriteFault old new = Front ways old new
+Meets ways NoMemory old new = Keeps old new ⊎ Front ways old new
+Meets ways status old new = Whole ways status old new
+
+-- the same where the shelf tells
+abbrev pub MeetsTold : Option Files → (Files → Ways) → Status → Option (List ℕ) → Option (List ℕ) → Type 0
+MeetsTold (Some files) of status old new = Meets (of files) status old new
+MeetsTold None of ReadFault old new = Keeps old new
+MeetsTold None of status old new = ⊤
+
+-- the right outcomes of a command
+abbrev pub ways_of : Form → Files → Ways
+ways_of (LocalForm schema tables document vars workers cut) = LocalWays schema tables document vars
+
+-- nothing is written where the words have no form
+abbrev pub Answers : Option Files → Option Form → Status → Option (List ℕ) → Option (List ℕ) → Type 0
+Answers told None status old new = Keeps old new
+Answers told (Some form) status old new = MeetsTold told (ways_of form) status old new
+
+-- the statuses that a command of this build ends with, whether the shelf tells or not
+abbrev pub IsAnswer : Status → Type 0
+IsAnswer Usage = ⊥
+IsAnswer StreamRefused = ⊥
+IsAnswer DoorFault = ⊥
+IsAnswer InputsRefused = ⊥
+IsAnswer _ = ⊤
+
+-- those that end it at a file
+abbrev pub IsStop : Status → Type 0
+IsStop ReadFault = ⊤
+IsStop WriteFault = ⊤
+IsStop NoMemory = ⊤
+IsStop NoFile = ⊤
+IsStop TooLong = ⊤
+IsStop _ = ⊥
+
+-- those that end it behind its files
+abbrev pub IsWork : Status → Type 0
+IsWork Refused = ⊤
+IsWork WriteFault = ⊤
+IsWork NoMemory = ⊤
+IsWork _ = ⊥
+
+-- those that end a request that is executed
+abbrev pub IsDelivery : Status → Type 0
+IsDelivery WriteFault = ⊤
+IsDelivery NoMemory = ⊤
+IsDelivery _ = ⊥
+
+-- and those that are left where the files are there and nothing outside fails
+abbrev pub IsJudged : Status → Type 0
+IsJudged Done = ⊤
+IsJudged Refused = ⊤
+IsJudged NoMemory = ⊤
+IsJudged _ = ⊥
+
+-- a file that a command can go on with
+abbrev pub HasFile : Files → List ℕ → Type 0
+HasFile files name = (bytes : List ℕ) × (files name ≡ Some bytes) × (length bytes ≤ file_limit)
+
+-- the shelf tells that the three files are there
+abbrev pub HasFiles : Option Files → (schema tables document : List ℕ) → Type 0
+HasFiles None schema tables document = ⊥
+HasFiles (Some files) schema tables document = HasFile files schema × HasFile files tables × HasFile files document
+
+-- the words have a form, and its files are there
+abbrev pub Ready : Option Files → Option Form → Type 0
+Ready told None = ⊥
+Ready told (Some (LocalForm schema tables document vars workers cut)) = HasFiles told schema tables document
+
+-- the file has these bytes, where the shelf tells
+abbrev pub Finds : Option Files → List ℕ → List ℕ → Type 0
+Finds None name bytes = ⊤
+Finds (Some files) name bytes = files name ≡ Some bytes
+
+-- what the file itself decides: it is missing or too long
+abbrev pub FileStops : Option (List ℕ) → List ℕ → Ways
+FileStops None name o = o ≡ names NoFile (codes "no such file: ") name
+FileStops (Some bytes) name o = (file_limit < length bytes) × (o ≡ names TooLong (codes "too long: ") name)
+
+-- the command ends at this file, whatever it would have done with it
+abbrev pub StopsAt : Option Files → List ℕ → Status → Option (List ℕ) → Option (List ℕ) → Type 0
+StopsAt told name status old new = MeetsTold told (λ files. FileStops (files name) name) status old new
+
+-- the status of a call that ended early or went through
+abbrev pub ended : {T : Type 0} → Result T Status → Status
+ended (Ok x) = Done
+ended (Err status) = status

@@ -1,0 +1,171 @@
+//! The commands: which words are one, which files it reads, and how it ends.
+
+ghost use Rattle.std.specs.Prelude.{◌≡◌, ◌⊎◌, ◌↔◌, ◌++◌, [], ◌∷◌, ◌≤◌, length, None, IfOk, OnOk, IfErr, IsErr, IsErrOf};
+ghost use Rattle.std.specs.Io.KnownBytes.{Keeps};
+ghost use Rattle.gql_io.specs.Faults.{Counts, Rose};
+ghost use Rattle.gql_io.specs.Told.{Puts};
+ghost use Rattle.gql_tool.specs.Words.{form_of};
+ghost use Rattle.gql_tool.specs.Outcome.{names, file_limit};
+ghost use Rattle.gql_tool.specs.Local.{LocalWays};
+ghost use Rattle.gql_tool.specs.Meets.{Meets, MeetsTold, Answers, IsAnswer, IsStop, IsJudged, HasFiles, Ready, Finds, StopsAt, ended};
+
+use crate::Status;
+use crate::request::answer;
+use crate::words::{Command, parse};
+use gql_io::{Failed, Shelf, ShelfRefusal, Sink};
+use gql_tree::{Bytes, Text};
+use std::alloc::Global;
+
+/// The most bytes that a file may have.
+const FILE_LIMIT: u64 = 67_108_864;
+
+fn put_line<O: Sink>(words: &[u8], name: &[u8], output: &mut O) -> Result<(), Failed>
+    ensures sent { Puts (O.sent output.old) (O.sent output.new) (words.now ++ (name.now ++ 10 ∷ [])) result }
+    ensures cause { Counts (O.faults output.old) (O.faults output.new) (IsErr result) }
+{
+    output.put(words)?;
+    output.put(name)?;
+    output.put(b"\n")
+}
+
+/// Says what is wrong with a file.
+fn say<O: Sink>(status: Status, words: &[u8], name: &str, output: &mut O) -> Status
+    requires { (status ≡ Status.NoFile) ⊎ (status ≡ Status.TooLong) }
+    ensures said { Meets (λ o. o ≡ names status words.now name.now) result (O.sent output.old) (O.sent output.new) }
+    ensures status { (result ≡ status) ⊎ (result ≡ Status.WriteFault) }
+    ensures write_fault { Counts (O.faults output.old) (O.faults output.new) (result ≡ Status.WriteFault) }
+{
+    match put_line(words, name.as_bytes(), output) {
+        Ok(()) => status,
+        Err(_) => Status::WriteFault,
+    }
+}
+
+/// Reads a file, or says what is wrong with it.
+fn file<S: Shelf, O: Sink>(
+    alloc: Global,
+    name: &str,
+    shelf: &mut S,
+    output: &mut O,
+) -> Result<Bytes, Status>
+    ensures found { IfOk result (λ bytes. Finds (S.files shelf.old) name.now bytes) }
+    ensures within { IfOk result (λ bytes. length bytes ≤ file_limit) }
+    ensures kept { OnOk result (Keeps (O.sent output.old) (O.sent output.new)) }
+    ensures stops { IfErr result (λ status. StopsAt (S.files shelf.old) name.now status (O.sent output.old) (O.sent output.new)) }
+    ensures statuses { IfErr result IsStop }
+    ensures same { S.files shelf.new ≡ S.files shelf.old }
+    ensures read_fault { Counts (S.faults shelf.old) (S.faults shelf.new) (IsErrOf result Status.ReadFault) }
+    ensures write_fault { Counts (O.faults output.old) (O.faults output.new) (IsErrOf result Status.WriteFault) }
+{
+    match shelf.read(alloc, name, FILE_LIMIT) {
+        Ok(bytes) => Ok(bytes),
+        Err(ShelfRefusal::Missing) => Err(say(Status::NoFile, b"no such file: ", name, output)),
+        Err(ShelfRefusal::TooLong) => Err(say(Status::TooLong, b"too long: ", name, output)),
+        Err(ShelfRefusal::Failed) => Err(Status::ReadFault),
+        Err(ShelfRefusal::NoMemory) => Err(Status::NoMemory),
+    }
+}
+
+/// Reads the files in order, and answers the request that they are.
+fn read_and_answer<S: Shelf, O: Sink>(
+    alloc: Global,
+    schema: &str,
+    tables: &str,
+    document: &str,
+    vars: &str,
+    shelf: &mut S,
+    output: &mut O,
+) -> Result<(), Status>
+    ensures meets { MeetsTold (S.files shelf.old) (LocalWays schema.now tables.now document.now vars.now)
+        (ended result) (O.sent output.old) (O.sent output.new) }
+    ensures statuses { IsAnswer (ended result) }
+    ensures same { S.files shelf.new ≡ S.files shelf.old }
+    ensures read_fault { Counts (S.faults shelf.old) (S.faults shelf.new) (ended result ≡ Status.ReadFault) }
+    ensures write_fault { Counts (O.faults output.old) (O.faults output.new) (ended result ≡ Status.WriteFault) }
+{
+    let schema = file(alloc, schema, shelf, output)?;
+    let tables = file(alloc, tables, shelf, output)?;
+    let document = file(alloc, document, shelf, output)?;
+    answer(
+        alloc,
+        vars,
+        schema.as_slice(),
+        tables.as_slice(),
+        document.as_slice(),
+        output,
+    )
+}
+
+fn status_of(end: Result<(), Status>) -> Status
+    ensures { result ≡ ended end }
+{
+    match end {
+        Ok(()) => Status::Done,
+        Err(status) => status,
+    }
+}
+
+/// The command `local`: the request of three files is answered on this machine alone.
+///
+/// It reads the schema, the tables and the document in this order, each at most once, and ends at
+/// the first that is missing or has too many bytes with a line that names it.
+pub fn local<S: Shelf, O: Sink>(
+    alloc: Global,
+    schema: &str,
+    tables: &str,
+    document: &str,
+    vars: &str,
+    shelf: &mut S,
+    output: &mut O,
+) -> Status
+    // The status and what is written, where the shelf tells.
+    ensures answers { MeetsTold (S.files shelf.old) (LocalWays schema.now tables.now document.now vars.now) result
+        (O.sent output.old) (O.sent output.new) }
+    ensures complete { HasFiles (S.files shelf.old) schema.now tables.now document.now
+        → ¬ Rose (S.faults shelf.old) (S.faults shelf.new) → ¬ Rose (O.faults output.old) (O.faults output.new)
+        → IsJudged result }
+
+    // The causes of the others, whether it tells or not.
+    ensures read_fault { Counts (S.faults shelf.old) (S.faults shelf.new) (result ≡ Status.ReadFault) }
+    ensures write_fault { Counts (O.faults output.old) (O.faults output.new) (result ≡ Status.WriteFault) }
+    ensures statuses { IsAnswer result }
+
+    ensures same { S.files shelf.new ≡ S.files shelf.old }
+{
+    status_of(read_and_answer(alloc, schema, tables, document, vars, shelf, output))
+}
+
+/// All that the program does.
+pub fn tool<S: Shelf, O: Sink>(
+    alloc: Global,
+    words: &[Text],
+    shelf: &mut S,
+    output: &mut O,
+) -> Status
+    // The status and what is written, where the shelf tells.
+    ensures answers { Answers (S.files shelf.old) (form_of words.now) result (O.sent output.old) (O.sent output.new) }
+    ensures complete { Ready (S.files shelf.old) (form_of words.now)
+        → ¬ Rose (S.faults shelf.old) (S.faults shelf.new) → ¬ Rose (O.faults output.old) (O.faults output.new)
+        → IsJudged result }
+
+    // The causes of the others, whether it tells or not.
+    ensures usage { (result ≡ Status.Usage) ↔ (form_of words.now ≡ None) }
+    ensures read_fault { Counts (S.faults shelf.old) (S.faults shelf.new) (result ≡ Status.ReadFault) }
+    ensures write_fault { Counts (O.faults output.old) (O.faults output.new) (result ≡ Status.WriteFault) }
+    ensures statuses { (result ≡ Status.Usage) ⊎ IsAnswer result }
+
+    ensures same { S.files shelf.new ≡ S.files shelf.old }
+{
+    match parse(words) {
+        None => Status::Usage,
+        Some(
+            Command::Local {
+                schema,
+                tables,
+                document,
+                vars,
+                ..
+            },
+        ) => local(alloc, schema, tables, document, vars, shelf, output),
+    }
+}

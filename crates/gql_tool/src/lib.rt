@@ -1,0 +1,29 @@
+//! The commands of the program.
+//!
+//! `tool` takes the words of a command line: `specs/Words.antt` has those that are a command,
+//! `specs/Local.antt` the right outcomes of the command `local`, and `specs/Meets.antt` how a status
+//! and what is written meet them.
+//!
+//! What is still built for one shape of request alone stands in modules that move out later:
+//! `document` reads the documents (`specs/Document.antt`, `specs/Operation.antt`), `tables` the tables
+//! (`specs/HeroTables.antt`), `region` runs leaves, `delivery` makes payloads, and `deliver` puts them
+//! one by one. That they are the payloads of the general definitions of execution is proved in
+//! `proofs/HeroPayloads.antt`, for the contract of `deliver`.
+#![tactic(auto)]
+
+mod command;
+mod deliver;
+mod delivery;
+mod document;
+mod region;
+mod request;
+mod status;
+mod tables;
+#[cfg(test)]
+mod tests;
+mod words;
+
+pub use command::{local, tool};
+pub use document::worked_documents;
+pub use status::Status;
+pub use tables::worked_tables;

@@ -1,0 +1,47 @@
+ghost use Rattle.std.specs.Prelude.{◌≡◌};
+ghost use Rattle.gql_tool.specs.Statuses.{number_of};
+
+use gql_tree::NoMemory;
+
+/// How a command ends. Its number is the program's exit status.
+#[derive(Clone, Copy, Debug, PartialEq, Eq)]
+pub enum Status {
+    /// All is written.
+    Done,
+    /// The request is refused, and what is written says why.
+    Refused,
+    /// The words are no command.
+    Usage,
+    /// The files could not be read.
+    ReadFault,
+    /// The output could not be written.
+    WriteFault,
+    /// There was no memory left.
+    NoMemory,
+    StreamRefused,
+    /// A file is missing, and what is written names it.
+    NoFile,
+    DoorFault,
+    InputsRefused,
+    /// A file is too long, and what is written names it.
+    TooLong,
+}
+
+impl Status {
+    /// The program's exit status.
+    pub fn number(self) -> u8
+        ensures { result ≡ number_of self }
+    {
+        self as u8
+    }
+}
+
+impl From<NoMemory> for Status {
+    ghost use Rattle.gql_tool.specs.declared.status.Status.TheVariants.{NoMemory};
+
+    ghost from_gives = { λ _ status. status ≡ NoMemory };
+
+    fn from(_: NoMemory) -> Self {
+        Status::NoMemory
+    }
+}
