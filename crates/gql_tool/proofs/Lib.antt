@@ -1,5 +1,6 @@
 mod Digits
 mod Files
+mod Fronts
 mod HeroFields
 mod HeroForest
 mod HeroGroups

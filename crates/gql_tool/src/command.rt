@@ -118,17 +118,17 @@ pub fn local<S: Shelf, O: Sink>(
     shelf: &mut S,
     output: &mut O,
 ) -> Status
-    // The status and what is written, where the shelf tells.
+    // The causes of what stops it, whether the shelf tells or not.
+    ensures read_fault { Counts (S.faults shelf.old) (S.faults shelf.new) (result ≡ Status.ReadFault) }
+    ensures write_fault { Counts (O.faults output.old) (O.faults output.new) (result ≡ Status.WriteFault) }
+    ensures statuses { IsAnswer result }
+
+    // The status and what is written, where it tells.
     ensures answers { MeetsTold (S.files shelf.old) (LocalWays schema.now tables.now document.now vars.now) result
         (O.sent output.old) (O.sent output.new) }
     ensures complete { HasFiles (S.files shelf.old) schema.now tables.now document.now
         → ¬ Rose (S.faults shelf.old) (S.faults shelf.new) → ¬ Rose (O.faults output.old) (O.faults output.new)
         → IsJudged result }
-
-    // The causes of the others, whether it tells or not.
-    ensures read_fault { Counts (S.faults shelf.old) (S.faults shelf.new) (result ≡ Status.ReadFault) }
-    ensures write_fault { Counts (O.faults output.old) (O.faults output.new) (result ≡ Status.WriteFault) }
-    ensures statuses { IsAnswer result }
 
     ensures same { S.files shelf.new ≡ S.files shelf.old }
 {
@@ -136,23 +136,24 @@ pub fn local<S: Shelf, O: Sink>(
 }
 
 /// All that the program does.
+#[tactic(auto, using(crate::proofs::Fronts::local_front))]
 pub fn tool<S: Shelf, O: Sink>(
     alloc: Global,
     words: &[Text],
     shelf: &mut S,
     output: &mut O,
 ) -> Status
-    // The status and what is written, where the shelf tells.
-    ensures answers { Answers (S.files shelf.old) (form_of words.now) result (O.sent output.old) (O.sent output.new) }
-    ensures complete { Ready (S.files shelf.old) (form_of words.now)
-        → ¬ Rose (S.faults shelf.old) (S.faults shelf.new) → ¬ Rose (O.faults output.old) (O.faults output.new)
-        → IsJudged result }
-
-    // The causes of the others, whether it tells or not.
+    // The causes of what stops it, whether the shelf tells or not.
     ensures usage { (result ≡ Status.Usage) ↔ (form_of words.now ≡ None) }
     ensures read_fault { Counts (S.faults shelf.old) (S.faults shelf.new) (result ≡ Status.ReadFault) }
     ensures write_fault { Counts (O.faults output.old) (O.faults output.new) (result ≡ Status.WriteFault) }
     ensures statuses { (result ≡ Status.Usage) ⊎ IsAnswer result }
+
+    // The status and what is written, where it tells.
+    ensures answers { Answers (S.files shelf.old) (form_of words.now) result (O.sent output.old) (O.sent output.new) }
+    ensures complete { Ready (S.files shelf.old) (form_of words.now)
+        → ¬ Rose (S.faults shelf.old) (S.faults shelf.new) → ¬ Rose (O.faults output.old) (O.faults output.new)
+        → IsJudged result }
 
     ensures same { S.files shelf.new ≡ S.files shelf.old }
 {

@@ -1,4 +1,4 @@
-//! The payloads of a document of heroes, each put as it is made.
+//! The payloads of a document of heroes.
 
 ghost use Rattle.std.specs.Prelude.{◌≡◌, ◌∷◌, [], true, false, IfOk, decimal};
 ghost use Rattle.gql_tool.specs.Hero.{hero_object as hero_object_of, single as single_of, announcing as announcing_of, completing_by};

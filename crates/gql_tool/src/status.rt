@@ -18,10 +18,13 @@ pub enum Status {
     WriteFault,
     /// There was no memory left.
     NoMemory,
+    /// The bytes of an answer are refused by the client. No command of this build ends so.
     StreamRefused,
     /// A file is missing, and what is written names it.
     NoFile,
+    /// The network failed. No command of this build ends so.
     DoorFault,
+    /// The schema or the tables are refused. No command of this build ends so.
     InputsRefused,
     /// A file is too long, and what is written names it.
     TooLong,

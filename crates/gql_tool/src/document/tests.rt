@@ -61,7 +61,7 @@ fn leaf(name: LeafName, line: u32, column: u32) -> Leaf {
 }
 
 fn spotted(alloc: Global) -> Result<Option<HeroDocument>, NoMemory> {
-    let text = "{\n hero {\n  id age\n  ... @defer(label: \"D1\") { name }\n}}";
+    let text = "{\n hero {\n  id age\n  ... @defer(label: \"Late\") { name }\n}}";
     read_document(alloc, text.as_bytes())
 }
 
@@ -81,12 +81,12 @@ fn places(rt: HostRuntime) -> Result<(), Fail> {
     };
     assert_eq!(rt;
         deferred.label.as_ref().map(|label| label.as_str()),
-        Some("D1")
+        Some("Late")
     );
     assert_eq!(rt; deferred.spot, Spot { line: 4, column: 3 });
     assert_eq!(rt;
         deferred.leaves.as_slice(),
-        [leaf(LeafName::Name, 4, 29)].as_slice()
+        [leaf(LeafName::Name, 4, 31)].as_slice()
     );
     Ok(())
 }
