@@ -5,7 +5,8 @@ use Rattle.std.specs.List.{AllByRecursion as Each}
 use Rattle.std.specs.declared.cmp.Ordering.{Ordering}
 use Rattle.std.specs.declared.cmp.Ordering.TheVariants.{Less, Equal, Greater}
 use Rattle.std.specs.Ordering.{match_ordering}
-use Rattle.gql_model.specs.Lists.{firsts, under, gathered, placed, ordered}
+use Rattle.gql_tree.specs.Ordered.{placed, ordered}
+use Rattle.gql_model.specs.Lists.{firsts, under, gathered}
 
 pub each_append : {A : Type 0} (P : A → Type 0) (xs ys : List A) → Each P xs → Each P ys → Each P (xs ++ ys)
 each_append P [] ys h k = k

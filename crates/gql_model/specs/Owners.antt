@@ -6,7 +6,8 @@ use Rattle.std.specs.Ordering.{nat_cmp}
 use Rattle.gql_tree.specs.declared.FragId.{FragId}
 use Rattle.gql_tree.specs.declared.Occurrence.{Occurrence}
 use Rattle.gql_model.specs.declared.operation.Node.{Node}
-use Rattle.gql_model.specs.Lists.{firsts, ordered}
+use Rattle.gql_tree.specs.Ordered.{ordered}
+use Rattle.gql_model.specs.Lists.{firsts}
 use Rattle.gql_tree.specs.Keys.{same_fragment}
 
 -- the proper ancestors of a node, from its parent up to the operation, at most so many

@@ -1,9 +1,5 @@
 -- Regions, each of which is run as one piece: the initial answer, an execution group, an item of a stream.
 use Rattle.std.specs.Prelude.{ℕ, List, [], ◌∷◌, ◌++◌, map, slice_get, Option, Some, None}
-use Rattle.std.specs.declared.cmp.Ordering.{Ordering}
-use Rattle.std.specs.declared.cmp.Ordering.TheVariants.{Less, Greater}
-use Rattle.std.specs.Ordering.{nat_cmp, match_ordering}
-use Rattle.std.specs.Cmp.Lexicographic.{slice_cmp}
 use Rattle.gql_tree.specs.declared.Key.TheVariants.{Index}
 use Rattle.gql_tree.specs.declared.Value.TheVariants as v
 use Rattle.gql_tree.specs.declared.Fault.{Fault}
@@ -16,22 +12,15 @@ use Rattle.gql_tree.specs.declared.Outcome.TheVariants.{Good, Failed}
 use Rattle.gql_tree.specs.declared.RegionResult.{RegionResult}
 use Rattle.gql_tree.specs.declared.TaskWork.{TaskWork}
 use Rattle.gql_tree.specs.declared.TaskWork.TheVariants.{Fields, Item}
-use Rattle.gql_tree.specs.Order.{path_cmp}
+use Rattle.gql_tree.specs.Order.{group_cmp, stream_cmp}
+use Rattle.gql_tree.specs.Ordered.{ordered}
 use Rattle.gql_model.specs.declared.operation.Node.{Node}
 use Rattle.gql_model.specs.declared.operation.NodeKind.{NodeKind}
 use Rattle.gql_model.specs.declared.operation.NodeKind.TheVariants.{Field, Fragment}
-use Rattle.gql_model.specs.Lists.{ordered}
 use Rattle.gql_model.specs.Shape.{Shape, named, list, non_null}
 use Rattle.gql_model.specs.World.{World, Cell, items, cells_of}
 use Rattle.gql_model.specs.Complete.{Part, no_found, bubble, nothing, good, null_part, complete}
 use Rattle.gql_model.specs.Objects.{node_of, fields_part, object_at}
-
--- group order: by path, then by the list of the owners' places, a prefix first
-abbrev pub group_cmp : Group → Group → Ordering
-group_cmp g h = match_ordering (path_cmp g.path.keys h.path.keys) Less (slice_cmp nat_cmp (map (λ f. f.place) g.owners) (map (λ f. f.place) h.owners)) Greater
-
-abbrev pub stream_cmp : Stream → Stream → Ordering
-stream_cmp s t = path_cmp s.path.keys t.path.keys
 
 abbrev pub failed : List Fault → RegionResult
 failed fs = record { outcome = Failed; faults = fs; fragments = []; groups = []; streams = [] }

@@ -4,6 +4,8 @@ use Rattle.std.specs.Prelude.{slice_get, filter, flat_map, zip, codes}
 use Rattle.gql_tree.specs.declared.Key.{Key}
 use Rattle.gql_tree.specs.declared.Spot.{Spot}
 use Rattle.gql_tree.specs.declared.Row.{Row}
+use Rattle.gql_tree.specs.Order.{group_cmp, stream_cmp}
+use Rattle.gql_tree.specs.Ordered.{ordered}
 use Rattle.gql_tree.specs.declared.Fault.{Fault}
 use Rattle.gql_tree.specs.declared.FragId.{FragId}
 use Rattle.gql_tree.specs.declared.Frag.{Frag}
@@ -186,11 +188,11 @@ module _ (t : HeroTables) (spot hero : Spot) (leaves : List Leaf) (n : ℕ) (p :
   abbrev root_part : Part → Part
   root_part x = whole (object_value (record { key = codes "hero"; nodes = hero_occurrence } ∷ [])) no_found (x ∷ [])
 
-  ordered-groups : (o : Option Deferred) → Rattle.gql_model.specs.Lists.ordered Rattle.gql_model.specs.Region.group_cmp ((found_of o).groups ++ []) ≡ (found_of o).groups
+  ordered-groups : (o : Option Deferred) → ordered group_cmp ((found_of o).groups ++ []) ≡ (found_of o).groups
   ordered-groups None = refl
   ordered-groups (Some def) = by_leaves def.leaves
     where
-      by_leaves : (ms : List Leaf) → Rattle.gql_model.specs.Lists.ordered Rattle.gql_model.specs.Region.group_cmp (groups_of ms ++ []) ≡ groups_of ms
+      by_leaves : (ms : List Leaf) → ordered group_cmp (groups_of ms ++ []) ≡ groups_of ms
       by_leaves [] = refl
       by_leaves (m ∷ ms) = refl
 
@@ -201,9 +203,9 @@ module _ (t : HeroTables) (spot hero : Spot) (leaves : List Leaf) (n : ℕ) (p :
   root_region : (o : Option Deferred) (b : Bool) (fs : List Fault) → region_of (root_part (soft (record { result = elim b [ true ↦ bubble | false ↦ good (v.Object (leaf_members p leaves)) (found_of o) ]; faults = fs }))) ≡ record { outcome = Good (hero_value b); faults = fs; fragments = unless b (found_of o).fragments; groups = unless b (found_of o).groups; streams = [] }
   root_region o true fs = ap (λ (gs : List Fault). (let r : RegionResult = record { outcome = Good (hero_value true); faults = gs; fragments = []; groups = []; streams = [] } in r)) (append-nil fs)
   root_region o false fs =
-      let make : List Fault → List Frag → List Group → List Stream → RegionResult = λ gs xs ys zs. record { outcome = Good (hero_value false); faults = gs; fragments = xs; groups = ys; streams = Rattle.gql_model.specs.Lists.ordered Rattle.gql_model.specs.Region.stream_cmp zs } in
-      ap (λ gs. make gs ((found_of o).fragments ++ []) (Rattle.gql_model.specs.Lists.ordered Rattle.gql_model.specs.Region.group_cmp ((found_of o).groups ++ [])) ((found_of o).streams ++ [])) (append-nil fs)
-      ∙ (ap (λ xs. make fs xs (Rattle.gql_model.specs.Lists.ordered Rattle.gql_model.specs.Region.group_cmp ((found_of o).groups ++ [])) ((found_of o).streams ++ [])) (append-nil (found_of o).fragments)
+      let make : List Fault → List Frag → List Group → List Stream → RegionResult = λ gs xs ys zs. record { outcome = Good (hero_value false); faults = gs; fragments = xs; groups = ys; streams = ordered stream_cmp zs } in
+      ap (λ gs. make gs ((found_of o).fragments ++ []) (ordered group_cmp ((found_of o).groups ++ [])) ((found_of o).streams ++ [])) (append-nil fs)
+      ∙ (ap (λ xs. make fs xs (ordered group_cmp ((found_of o).groups ++ [])) ((found_of o).streams ++ [])) (append-nil (found_of o).fragments)
       ∙ (ap (λ ys. make fs (found_of o).fragments ys ((found_of o).streams ++ [])) (ordered-groups o)
       ∙ ap (λ zs. make fs (found_of o).fragments (found_of o).groups (zs ++ [])) (streams-none o)))
 

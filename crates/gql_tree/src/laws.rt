@@ -1,10 +1,14 @@
 //! Laws of the definitions, each the contract of a function that does nothing.
 
-ghost use Rattle.std.specs.Prelude.{◌≡◌, length, [], ◌∷◌, codes};
+ghost use Rattle.std.specs.Prelude.{◌≡◌, length, [], ◌∷◌, ◌++◌, Some, codes};
+ghost use Rattle.gql_tree.specs.declared.path.Key.TheVariants.{Index};
 ghost use Rattle.gql_tree.specs.Finite.{IsFinite};
+ghost use Rattle.gql_tree.specs.Forest.{region};
 ghost use Rattle.gql_tree.specs.Frame.{frame};
+ghost use Rattle.gql_tree.specs.Merged.{delivery, part};
 ghost use Rattle.gql_tree.specs.PayloadText.{payload_text};
 ghost use Rattle.gql_tree.specs.Samples.{announced, delivered, failed, continued};
+ghost use Rattle.gql_tree.specs.WorkedForests.{hero, bang, luke, late_name, shared_name, nested_name, crew, item, streamed};
 
 use crate::Value;
 
@@ -21,4 +25,20 @@ pub fn payload_texts()
     ensures continued { payload_text continued ≡ codes "{\"hasNext\":true,\"incremental\":[{\"data\":{\"name\":\"Luke\"},\"id\":\"0\",\"subPath\":[\"hero\"]},{\"id\":\"1\",\"items\":[]}]}" }
     ensures one_piece { length (frame (codes "{\"data\":{\"hero\":{\"id\":\"1\"}}}" ∷ [])) ≡ 91 }
     ensures two_pieces { length (frame (payload_text announced ∷ payload_text delivered ∷ [])) ≡ 305 }
+{}
+
+/// What is delivered of some forests, and what fails.
+pub fn deliveries()
+    ensures late_name { delivery late_name ≡ record {
+        parts = part [] (region late_name) ∷ part hero luke ∷ []; lists = []; failures = [] } }
+    ensures shared_name { delivery shared_name ≡ record {
+        parts = part [] (region shared_name) ∷ part hero luke ∷ []; lists = [];
+        failures = record { path = record { keys = hero }; label = Some (codes "A"); errors = bang ∷ [] } ∷ [] } }
+    ensures nested_name { delivery nested_name ≡ record {
+        parts = part [] (region nested_name) ∷ []; lists = [];
+        failures = record { path = record { keys = hero }; label = Some (codes "A"); errors = bang ∷ [] } ∷ [] } }
+    ensures streamed { delivery streamed ≡ record {
+        parts = part [] (region streamed) ∷ part (crew ++ Index 1 ∷ []) (item (codes "Leia")) ∷ [];
+        lists = record { at = crew; length = 2 } ∷ [];
+        failures = record { path = record { keys = crew }; label = Some (codes "S"); errors = bang ∷ [] } ∷ [] } }
 {}
