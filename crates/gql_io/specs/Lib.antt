@@ -1,7 +1,10 @@
 pub mod Faults
 pub mod Told
+pub mod Left
 pub mod Files
 pub mod FileShelf
 pub mod MemoryShelf
 pub mod MemorySink
+pub mod MemorySource
 pub mod StdSink
+pub mod StdSource

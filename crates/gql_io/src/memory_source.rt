@@ -1,0 +1,127 @@
+ghost use Rattle.std.specs.Prelude.{◌≡◌, ◌↔◌, ◌<◌, min, length, take, IfOk, IsErr};
+ghost use Rattle.std.specs.Io.{ReadsAtMost};
+ghost use Rattle.gql_io.specs.Faults.{Counts};
+ghost use Rattle.gql_io.specs.Left.{Takes};
+ghost use Rattle.gql_io.specs.MemorySource.{rest_of, left_of, step_of, failing_of, calls_of, faults_of, FailsNext, count_next, IsNext};
+
+use crate::{Failed, Source};
+
+/// A source in memory, which gives a few bytes a call and fails at the calls
+/// that it is told to fail.
+#[derive(Debug, Drop)]
+pub struct MemorySource {
+    bytes: Vec<u8>,
+    at: usize,
+    step: usize,
+    failing: Vec<u64>,
+    calls: u64,
+    faults: u64,
+}
+
+impl MemorySource {
+    /// A source of these bytes, of which a call gives at most `step` (one where
+    /// that is 0), with the numbers of the calls that fail, counted from 0.
+    pub fn new(bytes: Vec<u8>, step: usize, failing: Vec<u64>) -> Self
+        ensures rest { rest_of result ≡ bytes.items }
+        ensures step { step_of result ≡ step }
+        ensures failing { failing_of result ≡ failing.items }
+        ensures calls { calls_of result ≡ 0 }
+        ensures faults { faults_of result ≡ 0 }
+    {
+        MemorySource {
+            bytes,
+            at: 0,
+            step,
+            failing,
+            calls: 0,
+            faults: 0,
+        }
+    }
+
+    /// How often the source has failed.
+    pub fn faults(&self) -> u64
+        ensures { result ≡ faults_of self.now }
+    {
+        self.faults
+    }
+
+    /// Counts a call, and a fault where it is one that fails.
+    fn begin_call(&mut self) -> Result<(), Failed>
+        ensures listed { IsErr result ↔ FailsNext self.old }
+        ensures same { rest_of self.new ≡ rest_of self.old }
+        ensures next { IsNext self.old self.new }
+        ensures cause { Counts (faults_of self.old) (faults_of self.new) (IsErr result) }
+    {
+        let failing = self.failing.as_slice().contains(&self.calls);
+        self.calls = self.calls.saturating_add(1);
+        if failing {
+            self.faults = self.faults.saturating_add(1);
+            return Err(Failed);
+        }
+        Ok(())
+    }
+}
+
+/// Copies as many bytes as there are, fit, and are allowed, and gives their number.
+fn copy_front(bytes: &[u8], room: &mut [u8], most: usize) -> usize
+    ensures count { result ≡ min (min (length bytes.now) (length room.old)) most }
+    ensures bytes { take result room.new ≡ take result bytes.now }
+    ensures room { length room.new ≡ length room.old }
+{
+    let count = bytes.len().min(room.len()).min(most);
+    room[..count].copy_from_slice(&bytes[..count]);
+    count
+}
+
+impl Source for MemorySource {
+    ghost left = { left_of };
+
+    ghost faults = { faults_of };
+
+    fn take(&mut self, room: &mut [u8]) -> Result<usize, Failed>
+        requires { 0 < length room.old }
+        ensures bound { ReadsAtMost result room.new }
+        ensures bytes { Takes (left_of self.old) (left_of self.new) result room.new }
+        ensures cause { Counts (faults_of self.old) (faults_of self.new) (IsErr result) }
+
+        // The calls that fail are those of the list, and each other call gives
+        // as much as there is, fits, and is allowed.
+        ensures listed { IsErr result ↔ FailsNext self.old }
+        ensures count { IfOk result (λ n. n ≡ count_next self.old (length room.old)) }
+        ensures next { IsNext self.old self.new }
+    {
+        self.begin_call()?;
+        let at = self.at.min(self.bytes.len());
+        let count = copy_front(&self.bytes[at..], room, self.step.max(1));
+        self.at = at + count;
+        Ok(count)
+    }
+}
+
+#[cfg(test)]
+mod tests {
+    use super::*;
+    use std::test::Fail;
+
+    #[test]
+    fn calls_that_fail_among_others(rt: HostRuntime) -> Result<(), Fail> {
+        let alloc = rt.alloc();
+        let mut bytes = Vec::new(alloc);
+        bytes.extend_from_slice(b"1234567")?;
+        let mut source = MemorySource::new(bytes, 3, vec![in alloc; 1, 4]?);
+        let mut room = [0; 4];
+        for (most, want, front, faults) in [
+            (4, Ok(3), b"123".as_slice(), 0),
+            (4, Err(Failed), b"123", 1),
+            (2, Ok(2), b"45", 1),
+            (4, Ok(2), b"67", 1),
+            (4, Err(Failed), b"67", 2),
+            (4, Ok(0), b"", 2),
+        ] {
+            assert_eq!(rt; source.take(&mut room[..most]), want, "{most}");
+            assert_eq!(rt; &room[..front.len()], front, "{most}");
+            assert_eq!(rt; source.faults(), faults, "{most}");
+        }
+        Ok(())
+    }
+}
