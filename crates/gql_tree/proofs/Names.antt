@@ -42,7 +42,7 @@ none_before [] i d n lt h = absurd (omega arith)
 none_before (x ∷ xs) zero d n lt h = (either (bytes_eq x.name n) (has_name n xs) h).0
 none_before (x ∷ xs) (suc i) d n lt h = none_before xs i d n (omega arith) (either (bytes_eq x.name n) (has_name n xs) h).1
 
-from_neither : (a b : Bool) → a ≡ false → b ≡ false → a || b ≡ false
+pub from_neither : (a b : Bool) → a ≡ false → b ≡ false → a || b ≡ false
 from_neither a b h k = rw (h, k) refl
 
 -- none of the members before one has its name

@@ -1,9 +1,10 @@
 //! Values as JSON.
 
-ghost use Rattle.std.specs.Prelude.{◌≡◌, IfOk};
+ghost use Rattle.std.specs.Prelude.{◌≡◌, IfOk, OnOk, IsTrue};
 ghost use Rattle.serde_json.specs.View.{view};
 ghost use Rattle.serde_json.specs.Written.{compact_text};
 ghost use Rattle.gql_tree.specs.Json.{data_of};
+ghost use Rattle.gql_tree.specs.Typed.{is_typed};
 
 use crate::{NoMemory, Text, Value};
 use serde_json::Map;
@@ -13,7 +14,8 @@ impl Value {
     /// The same value as the JSON crate holds it, with the members of each object in byte order of
     /// their names.
     pub fn to_serde(&self, alloc: Global) -> Result<serde_json::Value, NoMemory>
-        ensures { IfOk result (λ json. view json ≡ data_of self.now) }
+        ensures datum { IfOk result (λ json. view json ≡ data_of self.now) }
+        ensures typed { OnOk result (IsTrue (is_typed self.now)) }
     {
         match self {
             Value::Null => Ok(serde_json::Value::Null),

@@ -1,13 +1,17 @@
 //! Laws of the definitions, each the contract of a function that does nothing.
 
-ghost use Rattle.std.specs.Prelude.{◌≡◌, length, [], ◌∷◌, ◌++◌, Some, codes};
+ghost use Rattle.std.specs.Prelude.{◌≡◌, length, [], ◌∷◌, ◌++◌, Some, codes, false, IsTrue};
 ghost use Rattle.gql_tree.specs.declared.path.Key.TheVariants.{Index};
 ghost use Rattle.gql_tree.specs.Finite.{IsFinite};
 ghost use Rattle.gql_tree.specs.Forest.{region};
 ghost use Rattle.gql_tree.specs.Frame.{frame};
+ghost use Rattle.gql_tree.specs.FromJson.{has_bad_number, value_of};
+ghost use Rattle.gql_tree.specs.Json.{data_of};
 ghost use Rattle.gql_tree.specs.Merged.{delivery, part};
 ghost use Rattle.gql_tree.specs.PayloadText.{payload_text};
 ghost use Rattle.gql_tree.specs.Samples.{announced, delivered, failed, continued};
+ghost use Rattle.gql_tree.specs.Same.{SameFlat};
+ghost use Rattle.gql_tree.specs.Typed.{is_typed};
 ghost use Rattle.gql_tree.specs.WorkedForests.{hero, bang, luke, late_name, shared_name, nested_name, crew, item, streamed};
 
 use crate::Value;
@@ -15,6 +19,15 @@ use crate::Value;
 /// A value has a mark at finitely many paths.
 pub fn flat_is_finite(value: &Value)
     ensures { IsFinite value.now }
+{}
+
+/// Values with one JSON are the same up to the order of members, and so is the value of a value's
+/// JSON, in which no number is bad.
+pub fn one_json_is_one_value(first: &Value, second: &Value)
+    ensures one { IsTrue (is_typed first.now) → IsTrue (is_typed second.now)
+        → data_of first.now ≡ data_of second.now → SameFlat first.now second.now }
+    ensures back { IsTrue (is_typed first.now) → SameFlat first.now (value_of (data_of first.now)) }
+    ensures whole { IsTrue (is_typed first.now) → has_bad_number (data_of first.now) ≡ false }
 {}
 
 /// The texts of some payloads, and the lengths of multipart bodies.

@@ -6,6 +6,7 @@ mod bytes;
 mod copy;
 mod delivery;
 mod fields;
+mod from_json;
 mod laws;
 mod listed;
 mod memory;
@@ -23,7 +24,8 @@ pub use delivery::{
     Outcome, Payload, Pending, RegionResult, Row, Spot, Stream, Task, TaskWork,
 };
 pub use fields::{Fields, Named};
-pub use laws::{flat_is_finite, payload_texts};
+pub use from_json::NumberRefusal;
+pub use laws::{flat_is_finite, one_json_is_one_value, payload_texts};
 pub use listed::Listed;
 pub use memory::NoMemory;
 pub use path::{Key, Path};

@@ -4,4 +4,4 @@ use Rattle.gql_tree.proofs.Json.{no_float}
 use Rattle.gql_tree.proofs.value.Value.to_json.Goals as goal
 
 pub returns : goal.returns
-returns c = c.from_string.ensures ∙ (c.in_ok-to_string.ensures.text (ap has_float c.in_ok-json.ensures ∙ no_float _) ∙ ap compact_text c.in_ok-json.ensures)
+returns c = c.from_string.ensures ∙ (c.in_ok-to_string.ensures.text (ap has_float c.in_ok-json.ensures.datum ∙ no_float _) ∙ ap compact_text c.in_ok-json.ensures.datum)
