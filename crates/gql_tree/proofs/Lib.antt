@@ -1,5 +1,13 @@
 pub mod Names
 pub mod Same
+pub mod Place
+pub mod Put
+pub mod Moved
+pub mod Apart
+mod Has
+pub mod Union
+pub mod Extended
+pub mod Grafted
 mod Order
 pub mod Json
 pub mod FromJson

@@ -16,7 +16,7 @@ use Rattle.gql_tree.proofs.Names.{either, both}
 use Rattle.gql_tree.specs.Same.{SameFlat, SameMaybe, SameItems, SameLayer, FoundIn, NamedIn}
 
 -- no later member has the name of an earlier one
-abbrev Distinct : List (Named Value) → Type 0
+abbrev pub Distinct : List (Named Value) → Type 0
 Distinct [] = Unit {0}
 Distinct (m ∷ ms) = (named m.name ms ≡ None) × Distinct ms
 
@@ -34,7 +34,7 @@ skip_by false m ms n v eq gone there = there
 pub named_skip : (m : (Named Value)) (ms : List (Named Value)) (n : List ℕ) (v : Value) → named (name_of m) ms ≡ None → named n ms ≡ Some v → named n (m ∷ ms) ≡ Some v
 named_skip m ms n v gone there = skip_by (bytes_eq (name_of m) n) m ms n v (bytes_eq-Decides (name_of m) n).0 gone there
 
-named_first : (m : (Named Value)) (ms : List (Named Value)) → named (name_of m) (m ∷ ms) ≡ Some (value_of m)
+pub named_first : (m : (Named Value)) (ms : List (Named Value)) → named (name_of m) (m ∷ ms) ≡ Some (value_of m)
 named_first m ms = ap (λ b. cond b (Some (value_of m)) (named (name_of m) ms)) ((bytes_eq-Decides (name_of m) (name_of m)).1 refl)
 
 -- ---- from the layers to the maps
@@ -125,7 +125,7 @@ none_of : (n : List ℕ) (ms : List (Named Value)) → has_name n ms ≡ false �
 none_of n [] h = refl
 none_of n (m ∷ ms) h = let p = either (bytes_eq m.name n) (has_name n ms) h in ap (λ b. cond b (Some m.value) (named n ms)) p.0 ∙ none_of n ms p.1
 
-distinct_of : (ms : List (Named Value)) → IsTrue (apart ms) → Distinct ms
+pub distinct_of : (ms : List (Named Value)) → IsTrue (apart ms) → Distinct ms
 distinct_of [] h = tt
 distinct_of (m ∷ ms) h = let p = both (has_name m.name ms) (apart ms) h in (none_of m.name ms p.0, distinct_of ms p.1)
 

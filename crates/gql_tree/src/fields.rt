@@ -5,7 +5,7 @@ ghost use Rattle.std.specs.Option.{option_copied};
 ghost use Rattle.std.specs.Str.{bytes_eq};
 ghost use Rattle.gql_tree.specs.Names.{has_name, apart, named, put_named};
 
-use crate::{NoMemory, Text};
+use crate::{Listed, NoMemory, Text};
 use std::alloc::Global;
 use std::marker::Model;
 
@@ -55,6 +55,30 @@ impl<T> Fields<T> {
         }
     }
 
+    /// No members yet, as a list, with the allocator of this object.
+    pub(crate) fn no_entries(&self) -> Listed<Named<T>>
+        ensures { result ≡ [] }
+    {
+        Listed::from_vec(Vec::new(*self.items.allocator()))
+    }
+
+    pub(crate) fn from_entries(entries: Listed<Named<T>>) -> Self
+        requires { IsTrue (apart entries) }
+        ensures { result ≡ entries }
+    {
+        Fields {
+            items: entries.into_vec(),
+        }
+    }
+
+    pub(crate) fn into_entries(self) -> Listed<Named<T>>
+        ensures now { result ≡ self }
+        ensures apart { IsTrue (apart self) }
+    {
+        let Fields { items } = self;
+        Listed::from_vec(items)
+    }
+
     pub fn as_slice(&self) -> &[Named<T>]
         ensures now { result.now ≡ self.now }
         ensures apart { IsTrue (apart self.now) }
@@ -72,6 +96,14 @@ impl<T> Fields<T> {
             }
         }
         None
+    }
+}
+
+impl<T> Fields<T> {
+    pub(crate) fn has(&self, name: &str) -> bool
+        ensures { result ≡ has_name name.now self.now }
+    {
+        self.get(name).is_some()
     }
 }
 

@@ -7,14 +7,17 @@ mod copy;
 mod delivery;
 mod fields;
 mod from_json;
+mod graft;
 mod laws;
 mod listed;
 mod memory;
 mod path;
+mod replace;
 mod shared;
 #[cfg(test)]
 mod tests;
 mod text;
+mod unite;
 mod value;
 
 pub use bytes::Bytes;
@@ -25,7 +28,8 @@ pub use delivery::{
 };
 pub use fields::{Fields, Named};
 pub use from_json::NumberRefusal;
-pub use laws::{flat_is_finite, one_json_is_one_value, payload_texts};
+pub use graft::GraftRefusal;
+pub use laws::{deliveries, flat_is_finite, one_json_is_one_value, payload_texts};
 pub use listed::Listed;
 pub use memory::NoMemory;
 pub use path::{Key, Path};
