@@ -32,7 +32,8 @@ use Rattle.gql_model.specs.Owners.{owners}
 use Rattle.gql_model.specs.Collect.{met, merged, fragments}
 use Rattle.gql_model.specs.Complete.{Part, Found, Result, bubble, nothing, good, no_found, is_bubble, value_in, found_in, with_parts, whole, soft, hard, indexed, leaf, complete, fault_at, null_message}
 use Rattle.gql_model.specs.Objects.{node_of, stream_from, stream_at, initial_count, executed, executed_at, field_part, fields_part, object_part, object_at, object_value, groups_at, is_own}
-use Rattle.gql_model.specs.Region.{region_of, group_cmp, stream_cmp, item_shape, item_cell, untagged, completed_item, item_of_node, item_at, task_region}
+use Rattle.gql_tree.specs.Order.{group_cmp, stream_cmp}
+use Rattle.gql_model.specs.Region.{region_of, item_shape, item_cell, untagged, completed_item, item_of_node, item_at, task_region}
 use Rattle.gql_model.specs.Operations.{forest_below}
 use Rattle.gql_model.specs.Depth.{IsNumbered, ForestsUnfold}
 use Rattle.gql_model.proofs.Each.{each_append, each_flat, each_map, each_filter, each_weaker, each_always, each_gathered, each_ordered, each_none}
