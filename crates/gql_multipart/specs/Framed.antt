@@ -1,5 +1,5 @@
 -- The piece of one text in a multipart body, and the pieces of a whole body.
-use Rattle.std.specs.Prelude.{ℕ, List, [], ◌∷◌, ◌++◌, flat_map, Bool, true, false, codes}
+use Rattle.std.specs.Prelude.{ℕ, List, [], ◌∷◌, ◌++◌, flat_map, Bool, true, false, codes, ◌≡◌, ◌≢◌, ◌≤◌, All, length}
 use Rattle.gql_tree.specs.Frame.{mark, piece, crlf}
 
 -- what stands before the first piece
@@ -33,3 +33,9 @@ at_first (t ∷ ts) = false
 abbrev pub so_far : List (List ℕ) → List ℕ
 so_far [] = []
 so_far (t ∷ ts) = mark ++ flat_map piece (t ∷ ts)
+
+-- a text that a reader finds again: it is one line, doesn't begin with a mark and isn't too long
+pub record IsFramable (text : List ℕ) : Type 0 where
+  pub one_line : All (λ b. b ≢ 13) text
+  pub unmarked : (rest : List ℕ) → text ≡ mark ++ rest → ⊥
+  pub most : length text ≤ 67108864

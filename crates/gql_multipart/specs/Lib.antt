@@ -1,1 +1,5 @@
 pub mod Framed
+pub mod Body
+pub mod Regions
+pub mod Past
+pub mod Reading

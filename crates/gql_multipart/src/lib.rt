@@ -1,19 +1,29 @@
-//! Multipart bodies, one piece at a time.
+//! Multipart bodies, one piece at a time: sent, and read in any cutting.
 //!
 //! A server that answers with several texts sends each as soon as it is made. `frame` gives the
 //! bytes to send for one text, for the boundary `-`: a first piece begins the body with a mark, each
 //! piece ends with the mark of the next part, and in a last piece that mark closes the body. So a
-//! reader that waits for whole marks sees each text at once.
+//! reader that waits for whole marks sees each text at once. Its contract: the bytes are `framed` of
+//! specs/Framed.antt. The pieces of a list of texts, one after another, are the body that `gql_tree`
+//! defines as `frame`: the contract of `pieces_make_a_body`.
 //!
-//! Its contract: the bytes are `framed` of specs/Framed.antt. The pieces of a list of texts, one
-//! after another, are the body that `gql_tree` defines as `frame`: the contract of
-//! `pieces_make_a_body`.
+//! `Reader` takes a body of any boundary in pieces of any length, and gives each part once its next
+//! mark is whole. What a body is stands in specs/Body.antt, a relation between a boundary, bytes and
+//! the contents of parts. A reader stands for a past, the bytes that it was fed and the number of
+//! parts that it gave, and answers as the relation has it for that past: `Stands` and `IsAnswer` of
+//! specs/Past.antt. So it doesn't matter how the bytes were cut. `frames_are_read_back` says that it
+//! finds again what `frame` wrote.
 #![tactic(auto)]
 
+mod bytes;
 mod laws;
 mod part;
+mod place;
+mod read;
+mod reader;
 #[cfg(test)]
 mod tests;
 
-pub use laws::pieces_make_a_body;
+pub use laws::{bodies_are_read_in_one_way, frames_are_read_back, pieces_make_a_body};
 pub use part::frame;
+pub use reader::{FrameKind, FrameRefusal, Reader, Step};

@@ -1,0 +1,180 @@
+//! The reader of a body that comes in pieces.
+
+ghost use Rattle.std.specs.Prelude.{◌≡◌, ◌++◌, ◌⊎◌, ⊤, IfOk, IfErr, OnOk, OnErr};
+ghost use mathlib.Core.Option.{none};
+ghost use Rattle.std.specs.Borrow.{sem, follows_so};
+ghost use Rattle.gql_tree.specs.Frame.{crlf};
+ghost use Rattle.gql_multipart.specs.Body as body;
+ghost use Rattle.gql_multipart.specs.contracts.reader.Reader.{the_row};
+ghost use Rattle.gql_multipart.specs.Reading.{stop_says, has_ended};
+ghost use Rattle.gql_multipart.specs.Past.{Past, Kept, Stands, begun, fed, after, IsAnswer, more, ended, RefusesBoundary, IsEnd, said};
+
+use crate::bytes::is_boundary;
+use crate::read::{Found, Stop, content, seek};
+use gql_tree::NoMemory;
+use std::alloc::{AllocError, Global};
+use std::marker::Model;
+
+/// What is wrong with a body, by the region in which its first wrong byte stands.
+#[derive(Clone, Copy, Debug, PartialEq, Eq)]
+pub enum FrameKind {
+    /// The boundary has no or more than 70 characters, a character that it may not have, or a space
+    /// at its end.
+    BadBoundary,
+    /// The preamble has more than 16,384 bytes.
+    BadPreamble,
+    /// Behind a mark stands neither CRLF, with at most 64 spaces and tabs before it, nor `--`.
+    BadDelimiter,
+    /// A header line is none, begins with a mark, or there are more than 16,384 bytes of them.
+    BadHeader,
+    /// A content has more than 67,108,864 bytes.
+    PartTooLong,
+    /// The input has ended inside a body.
+    Truncated,
+}
+
+/// Why a body isn't read on.
+#[derive(Clone, Copy, Debug, PartialEq, Eq)]
+pub enum FrameRefusal {
+    /// `byte` is the least number of bytes that begin no body: the wrong byte, counted from 1.
+    At { kind: FrameKind, byte: u64 },
+    NoMemory,
+}
+
+/// What a reader answers.
+#[derive(Debug, Drop)]
+pub enum Step<'a> {
+    /// The content of the next part; its next mark is whole.
+    Part(&'a [u8]),
+    /// All complete parts were given, and the body goes on.
+    More,
+    /// All parts were given, and the end mark is whole. What comes behind it is ignored.
+    Ended,
+}
+
+/// A reader of multipart bodies (RFC 2046, section 5.1) in any pieces.
+#[derive(Debug, Drop)]
+pub struct Reader {
+    mark: Vec<u8>,
+    bytes: Vec<u8>,
+    given: usize,
+}
+
+impl Model for Reader {
+    ghost use Rattle.std.specs.Prelude.{◌<◌, length};
+    ghost use Rattle.gql_multipart.specs.Past.{Kept};
+
+    ghost Value = { Kept };
+
+    ghost view = { λ r. record { mark = r.mark.items; bytes = r.bytes.items; given = r.given } };
+
+    ghost invariant = { λ r. 2 < length r.mark.items };
+}
+
+impl From<NoMemory> for FrameRefusal {
+    ghost use Rattle.gql_multipart.specs.declared.reader.FrameRefusal.TheVariants as refusal;
+
+    ghost from_gives = { λ _ e. e ≡ refusal.NoMemory };
+
+    fn from(_: NoMemory) -> Self {
+        FrameRefusal::NoMemory
+    }
+}
+
+impl Reader {
+    /// A reader that was fed nothing. Refuses, but for want of memory, only a text that is no
+    /// boundary: 1 to 70 letters, digits and signs with no space at the end.
+    pub fn new(alloc: Global, boundary: &str) -> Result<Self, FrameRefusal>
+        ensures ok { IfOk result (λ reader. Stands reader (begun boundary.now)) }
+        ensures refused { IfErr result (λ refusal. RefusesBoundary boundary.now refusal) }
+    {
+        if !is_boundary(boundary.as_bytes()) {
+            return Err(FrameRefusal::At {
+                kind: FrameKind::BadBoundary,
+                byte: 0,
+            });
+        }
+        let mark = mark_of(alloc, boundary.as_bytes())?;
+        Ok(Reader {
+            mark,
+            bytes: Vec::new(alloc),
+            given: 0,
+        })
+    }
+
+    /// Takes the next piece of the body. An `Err` changes nothing.
+    pub fn feed(&mut self, piece: &[u8]) -> Result<(), NoMemory>
+        ensures ok { OnOk result ((past : Past) → Stands self.old past → Stands self.new (fed past piece.now)) }
+        ensures err { OnErr result (self.new ≡ self.old) }
+    {
+        self.bytes.extend_from_slice(piece)?;
+        Ok(())
+    }
+
+    /// The next part that is complete and wasn't given yet; else whether more is needed, the body has
+    /// ended, or no body begins with these bytes. A refusal is given again at each call. Needs no
+    /// memory.
+    pub fn next_part(&mut self) -> Result<Step<'_>, FrameRefusal>
+        ensures answer { (past : Past) → Stands self.old past → IsAnswer past (said result) }
+        ensures* after { sem 𝓛 (follows_so the_row the_row self.entry.ghost_name none (λ _ _. ⊤) (λ new. (past : Past) → Stands self.old past → Stands new (after past (said result)))) }
+    {
+        match seek(&self.mark, &self.bytes, self.given) {
+            Ok(found) => {
+                self.given += 1;
+                Ok(Step::Part(content(&self.mark, &self.bytes, found)))
+            }
+            Err(stop) => stopped(stop),
+        }
+    }
+
+    /// The input has ended. To be called where `next_part` last answered `More` or `Ended`. Refuses
+    /// as `Truncated` exactly where the bytes are no body. Needs no memory.
+    pub fn finish(&mut self) -> Result<(), FrameRefusal>
+        requires { (past : Past) × Stands self.old past × (IsAnswer past more ⊎ IsAnswer past ended) }
+        ensures answer { (past : Past) → Stands self.old past → IsEnd past result }
+        ensures same { self.new ≡ self.old }
+    {
+        if has_ended(seek(&self.mark, &self.bytes, self.given)) {
+            return Ok(());
+        }
+        Err(FrameRefusal::At {
+            kind: FrameKind::Truncated,
+            byte: self.bytes.len() as u64,
+        })
+    }
+}
+
+/// What a reader answers where it has found no part.
+fn stopped<'a>(stop: Stop) -> Result<Step<'a>, FrameRefusal>
+    ensures { said result ≡ stop_says stop }
+{
+    match stop {
+        Stop::More => Ok(Step::More),
+        Stop::Ended => Ok(Step::Ended),
+        Stop::Refused { kind, byte } => Err(FrameRefusal::At {
+            kind,
+            byte: byte as u64,
+        }),
+    }
+}
+
+fn has_ended(found: Result<Found, Stop>) -> bool
+    ensures { result ≡ has_ended found }
+{
+    match found {
+        Ok(_) => false,
+        Err(Stop::More) => false,
+        Err(Stop::Ended) => true,
+        Err(Stop::Refused { .. }) => false,
+    }
+}
+
+/// CRLF and the mark of a boundary.
+fn mark_of(alloc: Global, boundary: &[u8]) -> Result<Vec<u8>, NoMemory>
+    ensures { IfOk result (λ mark. mark.items ≡ crlf ++ body.mark boundary.now) }
+{
+    let mut mark = Vec::new(alloc);
+    mark.extend_from_slice(b"\r\n--")?;
+    mark.extend_from_slice(boundary)?;
+    Ok(mark)
+}
