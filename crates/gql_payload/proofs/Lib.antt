@@ -2,3 +2,6 @@ pub mod Contents
 pub mod Members
 pub mod Plain
 pub mod Line
+pub mod Printed
+pub mod Orderly
+pub mod Back

@@ -12,13 +12,13 @@ abbrev pub put_each : List Part → Members
 put_each [] = no_members
 put_each (m ∷ ms) = put_some m.0 m.1 (put_each ms)
 
-abbrev is_less : Ordering → Bool
+abbrev pub is_less : Ordering → Bool
 is_less Less = true
 is_less Equal = false
 is_less Greater = false
 
 -- the name comes before those of all parts
-abbrev leads : List ℕ → List Part → Bool
+abbrev pub leads : List ℕ → List Part → Bool
 leads name [] = true
 leads name (m ∷ ms) = is_less (slice_cmp nat_cmp name m.0) && leads name ms
 

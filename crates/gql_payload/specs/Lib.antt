@@ -1,2 +1,5 @@
 pub mod Members
 pub mod OneLine
+pub mod Reading
+pub mod WrongAt
+pub mod Typed

@@ -1,11 +1,26 @@
 //! Laws of the definitions, each the contract of a function that does nothing.
 
-ghost use Rattle.gql_tree.specs.PayloadText.{payload_text};
+ghost use Rattle.std.specs.Prelude.{◌≤◌, IsUtf8};
+ghost use Rattle.serde_json.specs.Data.{depth};
+ghost use Rattle.gql_tree.specs.declared.delivery.Payload.{Payload};
+ghost use Rattle.gql_tree.specs.PayloadText.{payload_data, payload_text};
+ghost use Rattle.gql_tree.specs.Sound.{IsSound, SamePayload};
 ghost use Rattle.gql_payload.specs.OneLine.{IsOneLine};
+ghost use Rattle.gql_payload.specs.Reading.{Decodes};
+ghost use Rattle.gql_payload.specs.Typed.{IsTypedPayload};
 
 use gql_tree::Payload;
 
 /// The text of a payload has no end of line.
 pub fn payload_text_is_one_line(payload: &Payload)
     ensures { IsOneLine (payload_text payload.now) }
+{}
+
+/// The text of a payload that makes sense is read as the same payload, up to the order of members.
+/// That the payload keeps the ranges of its types and that its text is UTF-8 is so for what `encode`
+/// was given.
+pub fn payload_text_is_read_back(payload: &Payload)
+    ensures { IsSound payload.now → IsTypedPayload payload.now → IsUtf8 (payload_text payload.now)
+        → depth (payload_data payload.now) ≤ 127
+        → (again : Payload) × Decodes (payload_text payload.now) again × SamePayload payload.now again }
 {}

@@ -1,20 +1,25 @@
 //! Payloads as compact JSON.
 //!
 //! `encode` writes one message of an incremental answer: first `data` and `pending`, later
-//! `incremental` and `completed`, with `hasNext` where more than one message comes. It is the layer
-//! between the payloads that a delivery makes and the frames that carry them.
+//! `incremental` and `completed`, with `hasNext` where more than one message comes. `decode` reads
+//! one, from any server that keeps the format. It is the layer between the payloads that a delivery
+//! makes, or a client puts together, and the frames that carry them.
 //!
-//! Its contract: the bytes are `payload_text` of the payload, a definition of `gql_tree`. What has
-//! nothing is left out, the names of each object stand in byte order, and nothing stands between
-//! tokens.
+//! Their contracts: the bytes are `payload_text` of the payload, a definition of `gql_tree`; what is
+//! read is the `payload` of specs/Reading.antt, one definition for each object; and what was written
+//! is read as the same payload, up to the order of members.
 #![tactic(auto)]
 
+mod from_objects;
+mod from_serde;
 mod laws;
 mod objects;
 mod parts;
+mod read;
 #[cfg(test)]
 mod tests;
 mod text;
 
-pub use laws::payload_text_is_one_line;
+pub use laws::{payload_text_is_one_line, payload_text_is_read_back};
+pub use read::{PayloadRefusal, decode};
 pub use text::encode;

@@ -1,11 +1,12 @@
 //! The JSON of each thing that a payload holds. An object gets its members from the last name to
 //! the first, so that each new one comes before the others.
 
-ghost use Rattle.std.specs.Prelude.{◌≡◌, ℕ, Some, IfOk, option_map};
+ghost use Rattle.std.specs.Prelude.{◌≡◌, ℕ, Some, IfOk, OnOk, option_map};
 ghost use Rattle.serde_json.specs.Data.{boolean, string};
 ghost use Rattle.serde_json.specs.View.{view};
 ghost use Rattle.gql_tree.specs.Json.{data_of};
 ghost use Rattle.gql_tree.specs.PayloadText.{key_data, path_data, location, locations, fault_data, pending_data, fields_data, items_data, entry_data, completed_data, payload_data};
+ghost use Rattle.gql_payload.specs.Typed.{IsTypedValue, IsTypedKey, IsTypedPath, IsTypedFault, IsTypedPending, HasTypedFields, HasTypedItems, IsTypedEntry, IsTypedCompleted, IsTypedPayload};
 
 use crate::parts::{ToSerde, array, if_some, put_some, unless_empty};
 use gql_tree::{Completed, Content, Entry, Fault, Key, NoMemory, Path, Payload, Pending, Text};
@@ -15,6 +16,8 @@ use std::alloc::Global;
 impl ToSerde for gql_tree::Value {
     ghost datum = { data_of };
 
+    ghost is_typed = { IsTypedValue };
+
     fn to_serde(&self, alloc: Global) -> Result<Value, NoMemory> {
         self.to_serde(alloc)
     }
@@ -23,6 +26,8 @@ impl ToSerde for gql_tree::Value {
 impl ToSerde for Text {
     ghost datum = { string };
 
+    ghost is_typed = { λ _. Unit };
+
     fn to_serde(&self, alloc: Global) -> Result<Value, NoMemory> {
         Ok(Value::try_from_str(alloc, self.as_str())?)
     }
@@ -30,6 +35,8 @@ impl ToSerde for Text {
 
 impl ToSerde for Key {
     ghost datum = { key_data };
+
+    ghost is_typed = { IsTypedKey };
 
     fn to_serde(&self, alloc: Global) -> Result<Value, NoMemory> {
         match self {
@@ -41,6 +48,8 @@ impl ToSerde for Key {
 
 impl ToSerde for Path {
     ghost datum = { path_data };
+
+    ghost is_typed = { IsTypedPath };
 
     fn to_serde(&self, alloc: Global) -> Result<Value, NoMemory> {
         array(alloc, self.keys.as_slice())
@@ -72,6 +81,8 @@ fn locations(alloc: Global, line: u32, column: u32) -> Result<Option<Value>, NoM
 impl ToSerde for Fault {
     ghost datum = { fault_data };
 
+    ghost is_typed = { IsTypedFault };
+
     fn to_serde(&self, alloc: Global) -> Result<Value, NoMemory> {
         let path = if_some(alloc, &self.path)?;
         let message = self.message.to_serde(alloc)?;
@@ -87,6 +98,8 @@ impl ToSerde for Fault {
 impl ToSerde for Pending {
     ghost datum = { pending_data };
 
+    ghost is_typed = { IsTypedPending };
+
     fn to_serde(&self, alloc: Global) -> Result<Value, NoMemory> {
         let path = self.path.to_serde(alloc)?;
         let label = if_some(alloc, &self.label)?;
@@ -101,7 +114,8 @@ impl ToSerde for Pending {
 
 /// The fields of an entry, where it has fields.
 fn fields(alloc: Global, content: &Content) -> Result<Option<Value>, NoMemory>
-    ensures { IfOk result (λ json. option_map view json ≡ fields_data content.now) }
+    ensures json { IfOk result (λ json. option_map view json ≡ fields_data content.now) }
+    ensures typed { OnOk result (HasTypedFields content.now) }
 {
     match content {
         Content::Fields(fields) => Ok(Some(fields.to_serde(alloc)?)),
@@ -111,7 +125,8 @@ fn fields(alloc: Global, content: &Content) -> Result<Option<Value>, NoMemory>
 
 /// The items of an entry, where it has items: an empty list too.
 fn items(alloc: Global, content: &Content) -> Result<Option<Value>, NoMemory>
-    ensures { IfOk result (λ json. option_map view json ≡ items_data content.now) }
+    ensures json { IfOk result (λ json. option_map view json ≡ items_data content.now) }
+    ensures typed { OnOk result (HasTypedItems content.now) }
 {
     match content {
         Content::Fields(_) => Ok(None),
@@ -121,6 +136,8 @@ fn items(alloc: Global, content: &Content) -> Result<Option<Value>, NoMemory>
 
 impl ToSerde for Entry {
     ghost datum = { entry_data };
+
+    ghost is_typed = { IsTypedEntry };
 
     fn to_serde(&self, alloc: Global) -> Result<Value, NoMemory> {
         let sub_path = unless_empty(alloc, self.sub_path.keys.as_slice())?;
@@ -141,6 +158,8 @@ impl ToSerde for Entry {
 impl ToSerde for Completed {
     ghost datum = { completed_data };
 
+    ghost is_typed = { IsTypedCompleted };
+
     fn to_serde(&self, alloc: Global) -> Result<Value, NoMemory> {
         let id = self.id.to_serde(alloc)?;
         let failures = unless_empty(alloc, self.errors.as_slice())?;
@@ -154,6 +173,8 @@ impl ToSerde for Completed {
 impl ToSerde for bool {
     ghost datum = { boolean };
 
+    ghost is_typed = { λ _. Unit };
+
     fn to_serde(&self, _: Global) -> Result<Value, NoMemory> {
         Ok(Value::Bool(*self))
     }
@@ -161,6 +182,8 @@ impl ToSerde for bool {
 
 impl ToSerde for Payload {
     ghost datum = { payload_data };
+
+    ghost is_typed = { IsTypedPayload };
 
     fn to_serde(&self, alloc: Global) -> Result<Value, NoMemory> {
         let pending = unless_empty(alloc, self.pending.as_slice())?;

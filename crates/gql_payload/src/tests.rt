@@ -1,9 +1,9 @@
-//! The texts of payloads that are written out by hand.
+//! Payloads and texts that are written out by hand.
 
-use crate::encode;
+use crate::{PayloadRefusal, decode, encode};
 use gql_tree::{
-    Completed, Content, Entry, Fault, Fields, Key, Listed, NoMemory, Path, Payload, Pending, Text,
-    Value,
+    Bytes, Completed, Content, Entry, Fault, Fields, Key, Listed, NoMemory, Path, Payload, Pending,
+    Text, Value,
 };
 use std::alloc::Global;
 use std::test::Fail;
@@ -128,6 +128,176 @@ fn writes_payloads(rt: HostRuntime) -> Result<(), Fail> {
     for (payload, want) in table {
         let bytes = encode(alloc, &payload?)?;
         assert_eq!(rt; bytes.as_slice(), want.as_bytes());
+    }
+    Ok(())
+}
+
+/// The text of the payload that the bytes are, or why they are none: a wrong member is its name.
+fn read_and_written(alloc: Global, bytes: &[u8]) -> Result<Bytes, NoMemory> {
+    match decode(alloc, bytes) {
+        Ok(payload) => encode(alloc, &payload),
+        Err(PayloadRefusal::NotJson) => Bytes::copy_of(alloc, b"not json"),
+        Err(PayloadRefusal::NotAnObject) => Bytes::copy_of(alloc, b"not an object"),
+        Err(PayloadRefusal::Wrong { member }) => Bytes::copy_of(alloc, member.as_str().as_bytes()),
+        Err(PayloadRefusal::NoMemory) => Err(NoMemory),
+    }
+}
+
+#[test]
+fn reads_payloads(rt: HostRuntime) -> Result<(), Fail> {
+    let alloc = rt.alloc();
+    for same in [
+        "{}",
+        "{\"data\":{}}",
+        "{\"data\":null}",
+        "{\"hasNext\":false}",
+        "{\"data\":{\"hero\":{\"id\":\"1\"}},\"hasNext\":true,\"pending\":[{\"id\":\"0\",\"label\":\"D\",\"path\":[\"hero\"]}]}",
+        "{\"completed\":[{\"id\":\"0\"}],\"hasNext\":false,\"incremental\":[{\"data\":{},\"id\":\"0\"}]}",
+        "{\"data\":{\"hero\":null},\"errors\":[{\"locations\":[{\"column\":4294967295,\"line\":1}],\"message\":\"bang\",\"path\":[\"hero\",4294967295]}]}",
+        "{\"hasNext\":true,\"incremental\":[{\"data\":{\"a\":-5},\"id\":\"0\",\"subPath\":[\"hero\"]},{\"id\":\"1\",\"items\":[]}]}",
+    ] {
+        let text = read_and_written(alloc, same.as_bytes())?;
+        assert_eq!(rt; text.as_slice(), same.as_bytes());
+    }
+    Ok(())
+}
+
+#[test]
+fn reads_what_others_write(rt: HostRuntime) -> Result<(), Fail> {
+    let alloc = rt.alloc();
+    for (text, want) in [
+        (
+            " {\"pending\":null, \"errors\":[],\n\"hasNext\":null,\"x\":[1.5],\"extensions\":{\"y\":-0}} ",
+            "{}",
+        ),
+        (
+            "{\"hasNext\":true,\"data\":{\"a\":1,\"a\":2},\"hasNext\":false}",
+            "{\"data\":{\"a\":2},\"hasNext\":false}",
+        ),
+        (
+            "{\"pending\":[{\"path\":[],\"label\":null,\"id\":\"0\",\"extensions\":1.5}]}",
+            "{\"pending\":[{\"id\":\"0\",\"path\":[]}]}",
+        ),
+        (
+            "{\"errors\":[{\"message\":\"m\",\"locations\":null,\"path\":null},{\"message\":\"n\",\"locations\":[],\"path\":[]}]}",
+            "{\"errors\":[{\"message\":\"m\"},{\"message\":\"n\",\"path\":[]}]}",
+        ),
+        (
+            "{\"errors\":[{\"message\":\"m\",\"locations\":[{\"line\":1,\"column\":2,\"z\":0},{\"line\":0}],\"extensions\":1e2}]}",
+            "{\"errors\":[{\"locations\":[{\"column\":2,\"line\":1}],\"message\":\"m\"}]}",
+        ),
+        (
+            "{\"incremental\":[{\"id\":\"0\",\"items\":[1],\"errors\":null,\"subPath\":null}],\"completed\":[{\"id\":\"0\",\"errors\":[]}]}",
+            "{\"completed\":[{\"id\":\"0\"}],\"incremental\":[{\"id\":\"0\",\"items\":[1]}]}",
+        ),
+    ] {
+        let written = read_and_written(alloc, text.as_bytes())?;
+        assert_eq!(rt; written.as_slice(), want.as_bytes());
+    }
+    Ok(())
+}
+
+#[test]
+fn refuses_what_is_no_payload(rt: HostRuntime) -> Result<(), Fail> {
+    let alloc = rt.alloc();
+    for (bytes, want) in [
+        (b"".as_slice(), "not json"),
+        (b"\xff", "not json"),
+        (b"{\"x\":\"\xff\"}", "not json"),
+        (b"\xef\xbb\xbf{}", "not json"),
+        (b"{\"x\":1e400}", "not json"),
+        (b"{\"x\":\"\\ud800\"}", "not json"),
+        (b"{} {}", "not json"),
+        (b"[]", "not an object"),
+        (b"null", "not an object"),
+        (b"{\"pending\":1,\"completed\":{}}", "completed"),
+        (b"{\"completed\":[{}]}", "completed"),
+        (b"{\"completed\":[{\"id\":0}]}", "completed"),
+        (
+            b"{\"completed\":[{\"id\":\"0\",\"errors\":[1]}]}",
+            "completed",
+        ),
+        (b"{\"data\":[],\"errors\":1}", "data"),
+        (b"{\"data\":{\"a\":-0}}", "data"),
+        (b"{\"data\":{\"a\":[1.0]}}", "data"),
+        (b"{\"data\":{\"a\":9223372036854775808}}", "data"),
+        (b"{\"errors\":{},\"hasNext\":1}", "errors"),
+        (b"{\"errors\":[{\"message\":null}]}", "errors"),
+        (
+            b"{\"errors\":[{\"message\":\"m\",\"path\":[-1]}]}",
+            "errors",
+        ),
+        (
+            b"{\"errors\":[{\"message\":\"m\",\"path\":[4294967296]}]}",
+            "errors",
+        ),
+        (
+            b"{\"errors\":[{\"message\":\"m\",\"locations\":{}}]}",
+            "errors",
+        ),
+        (
+            b"{\"errors\":[{\"message\":\"m\",\"locations\":[{\"line\":1}]}]}",
+            "errors",
+        ),
+        (
+            b"{\"errors\":[{\"message\":\"m\",\"locations\":[{\"line\":0,\"column\":1}]}]}",
+            "errors",
+        ),
+        (
+            b"{\"errors\":[{\"message\":\"m\",\"locations\":[{\"line\":1.0,\"column\":1}]}]}",
+            "errors",
+        ),
+        (b"{\"hasNext\":0,\"incremental\":0}", "hasNext"),
+        (b"{\"incremental\":{},\"pending\":0}", "incremental"),
+        (b"{\"incremental\":[{\"id\":\"0\"}]}", "incremental"),
+        (
+            b"{\"incremental\":[{\"id\":\"0\",\"data\":null}]}",
+            "incremental",
+        ),
+        (
+            b"{\"incremental\":[{\"id\":\"0\",\"data\":{},\"items\":[]}]}",
+            "incremental",
+        ),
+        (
+            b"{\"incremental\":[{\"id\":\"0\",\"items\":[0.5]}]}",
+            "incremental",
+        ),
+        (
+            b"{\"incremental\":[{\"id\":\"0\",\"data\":{},\"subPath\":[null]}]}",
+            "incremental",
+        ),
+        (b"{\"pending\":[{\"id\":\"0\"}]}", "pending"),
+        (
+            b"{\"pending\":[{\"id\":\"0\",\"path\":[],\"label\":5}]}",
+            "pending",
+        ),
+    ] {
+        let told = read_and_written(alloc, bytes)?;
+        assert_eq!(rt; told.as_slice(), want.as_bytes());
+    }
+    Ok(())
+}
+
+/// An object with an unknown member: a list in a list, and so on, so many deep.
+fn nested(alloc: Global, lists: u32) -> Result<String, Fail> {
+    let mut text = String::from_str(alloc, "{\"x\":")?;
+    for _ in 0..lists {
+        text.push_str("[")?;
+    }
+    for _ in 0..lists {
+        text.push_str("]")?;
+    }
+    text.push_str("}")?;
+    Ok(text)
+}
+
+#[test]
+fn nests_at_most_127_deep(rt: HostRuntime) -> Result<(), Fail> {
+    let alloc = rt.alloc();
+    for (lists, want) in [(126, "{}"), (127, "not json")] {
+        let text = nested(alloc, lists)?;
+        let told = read_and_written(alloc, text.as_str().as_bytes())?;
+        assert_eq!(rt; told.as_slice(), want.as_bytes());
     }
     Ok(())
 }
