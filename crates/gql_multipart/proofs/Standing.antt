@@ -1,12 +1,16 @@
 -- A reader that stands for a past answers as the past has it.
-use Rattle.std.proofs.Common.{◌≡◌, ℕ, Bool, true, false, ◌+◌, ◌⊎◌, inl, inr, IsTrue, List, [], ◌∷◌, ◌++◌, length, Result, Ok, Err, refl, sym, ap, ◌∙◌, subst, arith, ◌≤◌, length-append}
+use Rattle.std.proofs.Common.{Bor, ◌≡◌, ℕ, Bool, true, false, ◌+◌, ◌⊎◌, inl, inr, IsTrue, List, [], ◌∷◌, ◌++◌, length, Result, Ok, Err, refl, sym, ap, ◌∙◌, subst, arith, ◌≤◌, length-append}
 use Rattle.std.proofs.lemmas.List.{append_cancel_left}
 use Rattle.std.specs.List.{AllByRecursion as Each}
+use Rattle.gql_multipart.specs.declared.reader.FrameRefusal.{FrameRefusal}
+use Rattle.gql_multipart.specs.declared.reader.Step.{Step}
+use Rattle.gql_multipart.specs.declared.reader.Step.TheVariants as step
+use Rattle.gql_multipart.specs.declared.reader.Step.TheVariants.{Part}
 use Rattle.gql_multipart.specs.declared.read.Stop.{Stop}
 use Rattle.gql_multipart.specs.declared.read.Stop.TheVariants.{More, Ended, Refused}
 use Rattle.gql_multipart.specs.declared.read.Found.{Found}
 use Rattle.gql_multipart.specs.Body.{boundary_byte, IsBoundary, Body, Complete}
-use Rattle.gql_multipart.specs.Past.{Past, Kept, Stands, after, Said, gives, more, ended, IsAnswer, AllGiven}
+use Rattle.gql_multipart.specs.Past.{said, Past, Kept, Stands, after, Said, gives, more, ended, IsAnswer, AllGiven}
 use Rattle.gql_multipart.specs.Reading.{seek, content_of, stop_says, has_ended}
 use Rattle.gql_multipart.proofs.Lists.{NoCr}
 use Rattle.gql_multipart.proofs.Places.{sought}
@@ -127,3 +131,13 @@ finish_open kept past m bytes r t s em eb e et not_ended_here h =
 -- a past for which a whole stands is one for its fields
 pub opened : (a b : Kept) (past : Past) → a ≡ b → Stands b past → Stands a past
 opened a b past e s = let P : Kept → Type 0 = λ k. Stands k past in subst P (sym e) s
+
+-- where `next_part` gave no part and no refusal, `finish` may be called
+pub asked : (past : Past) (r : Result Step FrameRefusal) (step : Step) (kept : Kept) → r ≡ Ok step → ((x : Bor (List ℕ)) → step ≡ Part x → ⊥) → Stands kept (after past (said r)) → IsAnswer past (said r) → (other : Past) × Stands kept other × (IsAnswer other more ⊎ IsAnswer other ended)
+asked past r (Part x) kept e apart s a = absurd (apart x refl)
+asked past r step.More kept e apart s a =
+    let P : Said → Type 0 = λ z. Stands kept (after past z) in
+    (past, subst P (ap said e) s, inl (subst (IsAnswer past) (ap said e) a))
+asked past r step.Ended kept e apart s a =
+    let P : Said → Type 0 = λ z. Stands kept (after past z) in
+    (past, subst P (ap said e) s, inr (subst (IsAnswer past) (ap said e) a))
