@@ -17,3 +17,5 @@ pub mod Answering
 pub mod Standing
 pub mod Unique
 pub mod Frames
+pub mod RegionKinds
+pub mod Sayings

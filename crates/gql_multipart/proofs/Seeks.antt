@@ -38,7 +38,7 @@ module _ (boundary : List ℕ) (q : NoCr boundary) where
       (λ a h. h) (λ a h. h)
       (λ kind a h. (h.0, inside_as (Completes boundary (Mark 16384 2)) (IsOpening boundary) (opening_back boundary) a h.1))
 
-  header_reads : Reads (region (sought boundary) BadHeader (Line 16384)) (EndOf Header) Nothing (Within BadHeader Header)
+  pub header_reads : Reads (region (sought boundary) BadHeader (Line 16384)) (EndOf Header) Nothing (Within BadHeader Header)
   header_reads = in_words (region (sought boundary) BadHeader (Line 16384)) (EndOf (Completes boundary (Line 16384))) (EndOf Header) Nothing Nothing (Within BadHeader (Completes boundary (Line 16384))) (Within BadHeader Header)
       (region_reads boundary q BadHeader (Line 16384) tt)
       (λ n a r h. (h.0, header_back boundary a h.1))
@@ -46,7 +46,7 @@ module _ (boundary : List ℕ) (q : NoCr boundary) where
       (λ a h. h) (λ a h. h)
       (λ kind a h. (h.0, inside_as (Completes boundary (Line 16384)) Header (header_back boundary) a h.1))
 
-  content_reads : Reads (region (sought boundary) PartTooLong (Mark 67108866 2)) (EndOf Content) Nothing (Within PartTooLong Content)
+  pub content_reads : Reads (region (sought boundary) PartTooLong (Mark 67108866 2)) (EndOf Content) Nothing (Within PartTooLong Content)
   content_reads = in_words (region (sought boundary) PartTooLong (Mark 67108866 2)) (EndOf (Completes boundary (Mark 67108866 2))) (EndOf Content) Nothing Nothing (Within PartTooLong (Completes boundary (Mark 67108866 2))) (Within PartTooLong Content)
       (region_reads boundary q PartTooLong (Mark 67108866 2) (omega arith))
       (λ n a r h. (h.0, content_back boundary a h.1))

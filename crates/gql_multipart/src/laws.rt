@@ -5,6 +5,7 @@ ghost use Rattle.std.specs.List.{concat, AllByRecursion as Each};
 ghost use Rattle.gql_tree.specs.Frame as body;
 ghost use Rattle.gql_multipart.specs.Framed.{framed, pieces_of, at_first, so_far, IsFramable};
 ghost use Rattle.gql_multipart.specs.Body.{IsBoundary, Body, Complete};
+ghost use Rattle.gql_multipart.specs.Past.{Past, Said, IsAnswer};
 
 /// The pieces of one or more texts make a body: as a whole, and as it grows by a next piece and by
 /// the last.
@@ -17,6 +18,12 @@ pub fn pieces_make_a_body()
 /// Bytes are a body in one way.
 pub fn bodies_are_read_in_one_way()
     ensures { (boundary bytes : List ℕ) (contents others : List (List ℕ)) → IsBoundary boundary → Body boundary bytes contents → Body boundary bytes others → contents ≡ others }
+{}
+
+/// A past has one answer: of a boundary, the bytes fed and the number of parts given. So two cuttings
+/// of one text give the same parts and the same refusal.
+pub fn a_past_has_one_answer()
+    ensures { (past : Past) (said other : Said) → IsBoundary past.boundary → IsAnswer past said → IsAnswer past other → said ≡ other }
 {}
 
 /// The body of one or more texts is one whose parts are these texts and no others. What was sent of

@@ -24,6 +24,8 @@ mod reader;
 #[cfg(test)]
 mod tests;
 
-pub use laws::{bodies_are_read_in_one_way, frames_are_read_back, pieces_make_a_body};
+pub use laws::{
+    a_past_has_one_answer, bodies_are_read_in_one_way, frames_are_read_back, pieces_make_a_body,
+};
 pub use part::frame;
 pub use reader::{FrameKind, FrameRefusal, Reader, Step};
