@@ -1,5 +1,5 @@
 -- Parts one after another.
-use Rattle.std.proofs.Common.{◌≡◌, ℕ, zero, suc, ◌<◌, List, [], ◌∷◌, ◌++◌, length, refl, sym, ap, ◌∙◌, arith, append_assoc, append-nil}
+use Rattle.std.proofs.Common.{◌≡◌, ℕ, zero, suc, ◌<◌, ◌≤◌, List, [], ◌∷◌, ◌++◌, length, refl, sym, ap, ◌∙◌, arith, append_assoc, append-nil, length-append}
 use Rattle.gql_multipart.specs.Body.{IsPart, Parts, IsOpening, Begins}
 
 module _ (boundary : List ℕ) where
@@ -35,6 +35,24 @@ module _ (boundary : List ℕ) where
   pub begins_push : (contents : List (List ℕ)) (content o s p a rest : List ℕ) → IsOpening boundary o → Parts boundary contents [] s → IsPart boundary content p → a ≡ o ++ (s ++ p) → Begins boundary (contents ++ content ∷ []) rest (a ++ rest)
   begins_push contents content o s p a rest opening parts part cut =
       begins_more (contents ++ content ∷ []) [] a rest (o, s ++ p, opening, parts_push contents content s p parts part, cut)
+
+  -- each part has bytes
+  parts-length : (contents : List (List ℕ)) (rest a : List ℕ) → Parts boundary contents rest a → length contents ≤ length a
+  parts-length [] rest a h = omega arith
+  parts-length (c ∷ contents) rest a (x, y, (end, header, r, l, h, ct, cut'), parts, cut) =
+      omega (
+        arith,
+        parts-length contents rest y parts,
+        ap length cut,
+        length-append x y,
+        ap length cut',
+        length-append end (header ++ r),
+        ap length l.3,
+        length-append l.0 (13 ∷ 10 ∷ []),
+      )
+
+  pub begins-length : (contents : List (List ℕ)) (rest a : List ℕ) → Begins boundary contents rest a → length contents ≤ length a
+  begins-length contents rest a (o, y, opening, parts, cut) = omega (arith, parts-length contents rest y parts, ap length cut, length-append o y)
 
 -- the list at a place in it
 pub at_place : (contents : List (List ℕ)) (n : ℕ) → n < length contents → (before : List (List ℕ)) × (content : List ℕ) × (behind : List (List ℕ)) × (contents ≡ before ++ content ∷ behind) × (length before ≡ n)

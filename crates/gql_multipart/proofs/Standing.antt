@@ -1,5 +1,5 @@
 -- A reader that stands for a past answers as the past has it.
-use Rattle.std.proofs.Common.{Bor, ◌≡◌, ℕ, Bool, true, false, ◌+◌, ◌⊎◌, inl, inr, IsTrue, List, [], ◌∷◌, ◌++◌, length, Result, Ok, Err, refl, sym, ap, ◌∙◌, subst, arith, ◌≤◌, length-append}
+use Rattle.std.proofs.Common.{Bor, ◌≡◌, ℕ, Bool, true, false, ◌+◌, ◌⊎◌, inl, inr, IsTrue, List, [], ◌∷◌, ◌++◌, length, Result, Ok, Err, refl, sym, ap, ◌∙◌, subst, arith, ◌≤◌, ◌<◌, IfOk}
 use Rattle.std.proofs.lemmas.List.{append_cancel_left}
 use Rattle.std.specs.List.{AllByRecursion as Each}
 use Rattle.gql_multipart.specs.declared.reader.FrameRefusal.{FrameRefusal}
@@ -9,12 +9,13 @@ use Rattle.gql_multipart.specs.declared.reader.Step.TheVariants.{Part}
 use Rattle.gql_multipart.specs.declared.read.Stop.{Stop}
 use Rattle.gql_multipart.specs.declared.read.Stop.TheVariants.{More, Ended, Refused}
 use Rattle.gql_multipart.specs.declared.read.Found.{Found}
-use Rattle.gql_multipart.specs.Body.{boundary_byte, IsBoundary, Body, Complete}
-use Rattle.gql_multipart.specs.Past.{said, Past, Kept, Stands, after, Said, gives, more, ended, IsAnswer, AllGiven}
+use Rattle.gql_multipart.specs.Body.{dashes, boundary_byte, IsBoundary, Body}
+use Rattle.gql_multipart.specs.Past.{Past, Kept, Stands, after, kept_after, Said, gives, more, ended, IsAnswer, IsGiven}
 use Rattle.gql_multipart.specs.Reading.{seek, content_of, stop_says, has_ended}
 use Rattle.gql_multipart.proofs.Lists.{NoCr}
 use Rattle.gql_multipart.proofs.Places.{sought}
-use Rattle.gql_multipart.proofs.Answering.{all_given, no_body, body_read, more_open, part_given, ended_body, refused}
+use Rattle.gql_multipart.proofs.PartLists.{begins-length}
+use Rattle.gql_multipart.proofs.Answering.{all_given, no_body, few_ended, more_open, part_given, ended_body, refused}
 
 no_cr : (text : List ℕ) → Each (λ b. IsTrue (boundary_byte b)) text → NoCr text
 no_cr [] h = tt
@@ -57,18 +58,6 @@ answers kept past (Err (Refused kind byte)) s e =
     let r = refused past.boundary q past.given past.bytes kind byte f in
     (all_given past.boundary q past.given past.bytes (Refused kind byte) f, r.0, r.1)
 
--- where all is given and no end was found the bytes are no body
-pub not_ended : (kept : Kept) (past : Past) (r : Result Found Stop) → Stands kept past → r ≡ seek kept.mark kept.bytes kept.given → (r ≡ Err Ended → ⊥) → AllGiven past → (contents : List (List ℕ)) → Body past.boundary past.bytes contents → ⊥
-not_ended kept past r s e other given contents body =
-    by_read (body_read past.boundary (quiet past.boundary s.boundary) past.given past.bytes contents body)
-  where
-    by_read : (seek (sought past.boundary) past.bytes past.given ≡ Err Ended) ⊎ ((found : Found) × (seek (sought past.boundary) past.bytes past.given ≡ Ok found)) → ⊥
-    by_read (inl f) = other (sym (found_for kept past r s e) ∙ f)
-    by_read (inr (found, f)) =
-        let g = part_given past.boundary (quiet past.boundary s.boundary) past.given past.bytes found f in
-        let l : length (g.0 ++ content_of (sought past.boundary) past.bytes found ∷ []) ≤ past.given = given (g.0 ++ content_of (sought past.boundary) past.bytes found ∷ []) g.1 in
-        omega (arith, length-append g.0 (content_of (sought past.boundary) past.bytes found ∷ []))
-
 -- ---- the same with what the code holds: m and bytes are what is kept, r is what was found in it
 
 pub stands_given : (kept : Kept) (past : Past) → Stands kept past → Stands (record { mark = kept.mark; bytes = kept.bytes; given = kept.given + 1 }) (record { boundary = past.boundary; bytes = past.bytes; given = past.given + 1 })
@@ -102,42 +91,52 @@ has_ended_true (Err More) e = absurd cc
 has_ended_true (Err Ended) e = refl
 has_ended_true (Err (Refused kind byte)) e = absurd cc
 
-pub end_not_found : (kept : Kept) (past : Past) (m bytes : List ℕ) (r : Result Found Stop) → Stands kept past → m ≡ kept.mark → bytes ≡ kept.bytes → r ≡ seek m bytes kept.given → (r ≡ Err Ended → ⊥) → AllGiven past → (contents : List (List ℕ)) → Body past.boundary past.bytes contents → ⊥
-end_not_found kept past m bytes r s em eb e other given = not_ended kept past r s (kept_seek kept m bytes r em eb e) other given
+-- the same sought for the past, behind as many parts as there are bytes
+end_for : (kept : Kept) (past : Past) (m bytes : List ℕ) (n : ℕ) (r : Result Found Stop) → Stands kept past → m ≡ kept.mark → bytes ≡ kept.bytes → n ≡ length bytes → r ≡ seek m bytes n → seek (sought past.boundary) past.bytes (length past.bytes) ≡ r
+end_for kept past m bytes n r s em eb en e =
+    let texts : bytes ≡ past.bytes = eb ∙ s.bytes in
+    sym (e ∙ (ap (λ z. seek z bytes n) (em ∙ s.mark) ∙ (ap (λ z. seek (sought past.boundary) z n) texts ∙ ap (λ z. seek (sought past.boundary) past.bytes z) (en ∙ ap length texts))))
 
--- a reader stands for one past alone
-same_given : (kept : Kept) (past other : Past) → Stands kept past → Stands kept other → AllGiven other → AllGiven past
-same_given kept past other s t given contents complete =
-    let boundaries : past.boundary ≡ other.boundary = append_cancel_left (13 ∷ 10 ∷ 45 ∷ 45 ∷ []) past.boundary other.boundary (sym s.mark ∙ t.mark) in
-    let texts : past.bytes ≡ other.bytes = sym s.bytes ∙ t.bytes in
-    let counts : other.given ≡ past.given = sym t.given ∙ s.given in
-    let P : List ℕ → Type 0 = λ z. Complete z past.bytes contents in
-    let Q : List ℕ → Type 0 = λ z. Complete other.boundary z contents in
-    omega (arith, given contents (subst Q texts (subst P boundaries complete)), counts)
+pub finish_ended : (kept : Kept) (past : Past) (m bytes : List ℕ) (n : ℕ) (r : Result Found Stop) (t : Bool) → Stands kept past → m ≡ kept.mark → bytes ≡ kept.bytes → n ≡ length bytes → r ≡ seek m bytes n → t ≡ has_ended r → t ≡ true → (contents : List (List ℕ)) × Body past.boundary past.bytes contents
+finish_ended kept past m bytes n r t s em eb en e et yes_ended =
+    ended_body past.boundary (quiet past.boundary s.boundary) (length past.bytes) past.bytes
+    (end_for kept past m bytes n r s em eb en e ∙ has_ended_true r (sym et ∙ yes_ended))
 
-pub settled : (kept : Kept) (past : Past) → Stands kept past → ((other : Past) × Stands kept other × (IsAnswer other more ⊎ IsAnswer other ended)) → AllGiven past
-settled kept past s (other, t, inl a) = same_given kept past other s t a.0
-settled kept past s (other, t, inr a) = same_given kept past other s t a.0
-
-pub finish_ended : (kept : Kept) (past : Past) (m bytes : List ℕ) (r : Result Found Stop) (t : Bool) → Stands kept past → m ≡ kept.mark → bytes ≡ kept.bytes → r ≡ seek m bytes kept.given → t ≡ has_ended r → t ≡ true → (contents : List (List ℕ)) × Body past.boundary past.bytes contents
-finish_ended kept past m bytes r t s em eb e et yes_ended =
-    let a = stop_said kept past m bytes r Ended ended s em eb e (has_ended_true r (sym et ∙ yes_ended)) refl in
-    (a.1, a.2)
-
-pub finish_open : (kept : Kept) (past : Past) (m bytes : List ℕ) (r : Result Found Stop) (t : Bool) → Stands kept past → m ≡ kept.mark → bytes ≡ kept.bytes → r ≡ seek m bytes kept.given → t ≡ has_ended r → t ≡ false → ((other : Past) × Stands kept other × (IsAnswer other more ⊎ IsAnswer other ended)) → (contents : List (List ℕ)) → Body past.boundary past.bytes contents → ⊥
-finish_open kept past m bytes r t s em eb e et not_ended_here h =
-    end_not_found kept past m bytes r s em eb e (λ p. (let bad : true ≡ false = sym (ap has_ended p) ∙ (sym et ∙ not_ended_here) in cc)) (settled kept past s h)
+-- a body has fewer parts than bytes, so its end is found behind them
+pub finish_open : (kept : Kept) (past : Past) (m bytes : List ℕ) (n : ℕ) (r : Result Found Stop) (t : Bool) → Stands kept past → m ≡ kept.mark → bytes ≡ kept.bytes → n ≡ length bytes → r ≡ seek m bytes n → t ≡ has_ended r → t ≡ false → (contents : List (List ℕ)) → Body past.boundary past.bytes contents → ⊥
+finish_open kept past m bytes n r t s em eb en e et not_ended contents (some, any, begins) =
+    let found = few_ended past.boundary (quiet past.boundary s.boundary) (length past.bytes) past.bytes any contents some begins (begins-length past.boundary contents (dashes ++ any) past.bytes begins) in
+    let ended : r ≡ Err Ended = sym (end_for kept past m bytes n r s em eb en e) ∙ found in
+    let bad : true ≡ false = sym (ap has_ended ended) ∙ (sym et ∙ not_ended) in
+    cc
 
 -- a past for which a whole stands is one for its fields
 pub opened : (a b : Kept) (past : Past) → a ≡ b → Stands b past → Stands a past
 opened a b past e s = let P : Kept → Type 0 = λ k. Stands k past in subst P (sym e) s
 
--- where `next_part` gave no part and no refusal, `finish` may be called
-pub asked : (past : Past) (r : Result Step FrameRefusal) (step : Step) (kept : Kept) → r ≡ Ok step → ((x : Bor (List ℕ)) → step ≡ Part x → ⊥) → Stands kept (after past (said r)) → IsAnswer past (said r) → (other : Past) × Stands kept other × (IsAnswer other more ⊎ IsAnswer other ended)
-asked past r (Part x) kept e apart s a = absurd (apart x refl)
-asked past r step.More kept e apart s a =
-    let P : Said → Type 0 = λ z. Stands kept (after past z) in
-    (past, subst P (ap said e) s, inl (subst (IsAnswer past) (ap said e) a))
-asked past r step.Ended kept e apart s a =
-    let P : Said → Type 0 = λ z. Stands kept (after past z) in
-    (past, subst P (ap said e) s, inr (subst (IsAnswer past) (ap said e) a))
+-- ---- what is kept, apart from any past
+
+pub kept_given : (kept now : Kept) (content : List ℕ) → kept ≡ now → record { mark = kept.mark; bytes = kept.bytes; given = kept.given + 1 } ≡ kept_after now (gives content)
+kept_given kept now content e = ap (λ (k : Kept). kept_after k (gives content)) e
+
+pub kept_stopped : (kept now : Kept) (stop : Stop) (says : Said) → says ≡ stop_says stop → kept ≡ now → kept ≡ kept_after now says
+kept_stopped kept now stop says es e = e ∙ (by_stop stop ∙ sym (ap (kept_after now) es))
+  where
+    by_stop : (stop : Stop) → now ≡ kept_after now (stop_says stop)
+    by_stop More = refl
+    by_stop Ended = refl
+    by_stop (Refused kind byte) = refl
+
+-- a part that is found has more bytes before its end than there are parts before it
+pub given_bytes : (kept now : Kept) (bytes : List ℕ) (r : Result Found Stop) (found : Found) → kept ≡ now → bytes ≡ kept.bytes → IfOk r (λ f. (kept.given < f.next) × (f.content ≤ f.next) × (f.next ≤ length bytes)) → r ≡ Ok found → now.given < length now.bytes
+given_bytes kept now bytes r found e eb grows ok =
+    let g = subst (λ (x : Result Found Stop). IfOk x (λ f. (kept.given < f.next) × (f.content ≤ f.next) × (f.next ≤ length bytes))) ok grows in
+    omega (arith, g.0, g.2, ap length eb, ap (λ (k : Kept). k.given) e, ap (λ (k : Kept). length k.bytes) e)
+
+pub none_given : (stop : Stop) (says : Said) → says ≡ stop_says stop → IsGiven says → ⊥
+none_given stop says es given = by_stop stop (subst IsGiven es given)
+  where
+    by_stop : (stop : Stop) → IsGiven (stop_says stop) → ⊥
+    by_stop More given = given
+    by_stop Ended given = given
+    by_stop (Refused kind byte) given = given

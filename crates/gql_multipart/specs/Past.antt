@@ -72,6 +72,16 @@ after past ended = past
 after past (refuses kind byte) = past
 after past no_memory = past
 
+-- what is kept behind an answer
+abbrev pub kept_after : Kept → Said → Kept
+kept_after kept (gives content) = record kept { given = kept.given + 1 }
+kept_after kept _ = kept
+
+-- a part was given
+abbrev pub IsGiven : Said → Type 0
+IsGiven (gives content) = Unit
+IsGiven _ = ⊥
+
 -- what `next_part` returned
 abbrev pub said : Result Step FrameRefusal → Said
 said (Ok (Part content)) = gives content.now

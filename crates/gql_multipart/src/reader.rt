@@ -1,13 +1,13 @@
 //! The reader of a body that comes in pieces.
 
-ghost use Rattle.std.specs.Prelude.{◌≡◌, ◌++◌, ◌⊎◌, ⊤, IfOk, IfErr, OnOk, OnErr};
+ghost use Rattle.std.specs.Prelude.{◌≡◌, ◌++◌, ◌<◌, length, ⊤, IfOk, IfErr, OnOk, OnErr};
 ghost use mathlib.Core.Option.{none};
 ghost use Rattle.std.specs.Borrow.{sem, follows_so};
 ghost use Rattle.gql_tree.specs.Frame.{crlf};
 ghost use Rattle.gql_multipart.specs.Body as body;
 ghost use Rattle.gql_multipart.specs.contracts.reader.Reader.{the_row};
 ghost use Rattle.gql_multipart.specs.Reading.{stop_says, has_ended};
-ghost use Rattle.gql_multipart.specs.Past.{Past, Kept, Stands, begun, fed, after, IsAnswer, more, ended, RefusesBoundary, IsEnd, said};
+ghost use Rattle.gql_multipart.specs.Past.{Past, Kept, Stands, begun, fed, after, kept_after, IsAnswer, IsGiven, RefusesBoundary, IsEnd, said};
 
 use crate::bytes::is_boundary;
 use crate::read::{Found, Stop, content, seek};
@@ -116,7 +116,8 @@ impl Reader {
     /// memory.
     pub fn next_part(&mut self) -> Result<Step<'_>, FrameRefusal>
         ensures answer { (past : Past) → Stands self.old past → IsAnswer past (said result) }
-        ensures* after { sem 𝓛 (follows_so the_row the_row self.entry.ghost_name none (λ _ _. ⊤) (λ new. (past : Past) → Stands self.old past → Stands new (after past (said result)))) }
+        ensures bytes { IsGiven (said result) → self.old.given < length self.old.bytes }
+        ensures* after { sem 𝓛 (follows_so the_row the_row self.entry.ghost_name none (λ _ _. ⊤) (λ new. (new ≡ kept_after self.old (said result)) × ((past : Past) → Stands self.old past → Stands new (after past (said result))))) }
     {
         match seek(&self.mark, &self.bytes, self.given) {
             Ok(found) => {
@@ -127,19 +128,19 @@ impl Reader {
         }
     }
 
-    /// The input has ended. To be called where `next_part` last answered `More` or `Ended`. Refuses
-    /// as `Truncated` exactly where the bytes are no body. Needs no memory.
+    /// The input has ended. Refuses as `Truncated` exactly where the bytes are no body, whichever of
+    /// their parts were given. Needs no memory.
     pub fn finish(&mut self) -> Result<(), FrameRefusal>
-        requires { (past : Past) × Stands self.old past × (IsAnswer past more ⊎ IsAnswer past ended) }
         ensures answer { (past : Past) → Stands self.old past → IsEnd past result }
         ensures same { self.new ≡ self.old }
     {
-        if has_ended(seek(&self.mark, &self.bytes, self.given)) {
+        let length = self.bytes.len();
+        if has_ended(seek(&self.mark, &self.bytes, length)) {
             return Ok(());
         }
         Err(FrameRefusal::At {
             kind: FrameKind::Truncated,
-            byte: self.bytes.len() as u64,
+            byte: length as u64,
         })
     }
 }

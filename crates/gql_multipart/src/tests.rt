@@ -1,7 +1,5 @@
 //! Pieces and bodies that are written out by hand.
 
-ghost use Rattle.gql_multipart.specs.Past.{Past, Stands};
-
 use crate::{FrameKind, FrameRefusal, Reader, Step, frame};
 use std::alloc::Global;
 use std::test::Fail;
@@ -92,19 +90,6 @@ fn refused(alloc: Global, refusal: FrameRefusal) -> Result<String, Fail> {
         FrameRefusal::At { kind, byte } => Ok(format!(in alloc; "{kind:?} {byte}")?),
         FrameRefusal::NoMemory => Ok(format!(in alloc; "NoMemory")?),
     }
-}
-
-/// What `finish` answers behind the last part.
-fn ending(reader: &mut Reader) -> Result<(), FrameRefusal>
-    requires { (past : Past) × Stands reader.old past }
-{
-    for _ in 0..9 {
-        match reader.next_part()? {
-            Step::Part(_) => {}
-            _ => return reader.finish(),
-        }
-    }
-    Ok(())
 }
 
 /// So many bytes between a front and a back.
@@ -241,7 +226,7 @@ fn ends(rt: HostRuntime) -> Result<(), Fail> {
     for (bytes, want) in table {
         let mut reader = Reader::new(alloc, "-")?;
         reader.feed(bytes.as_bytes())?;
-        match ending(&mut reader) {
+        match reader.finish() {
             Ok(()) => assert_eq!(rt; "", want),
             Err(refusal) => assert_eq!(rt; refused(alloc, refusal)?.as_str(), want),
         }
