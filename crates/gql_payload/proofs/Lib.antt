@@ -5,3 +5,4 @@ pub mod Line
 pub mod Printed
 pub mod Orderly
 pub mod Back
+pub mod Wrong

@@ -1,12 +1,12 @@
 //! Laws of the definitions, each the contract of a function that does nothing.
 
-ghost use Rattle.std.specs.Prelude.{◌≤◌, IsUtf8};
-ghost use Rattle.serde_json.specs.Data.{depth};
+ghost use Rattle.std.specs.Prelude.{◌≡◌, ◌≤◌, not, is_some, IsUtf8};
+ghost use Rattle.serde_json.specs.Data.{Data, depth};
 ghost use Rattle.gql_tree.specs.declared.delivery.Payload.{Payload};
 ghost use Rattle.gql_tree.specs.PayloadText.{payload_data, payload_text};
 ghost use Rattle.gql_tree.specs.Sound.{IsSound, SamePayload};
 ghost use Rattle.gql_payload.specs.OneLine.{IsOneLine};
-ghost use Rattle.gql_payload.specs.Reading.{Decodes};
+ghost use Rattle.gql_payload.specs.Reading.{payload as payload_of, wrong_member, Decodes};
 ghost use Rattle.gql_payload.specs.Typed.{IsTypedPayload};
 
 use gql_tree::Payload;
@@ -23,4 +23,10 @@ pub fn payload_text_is_read_back(payload: &Payload)
     ensures { IsSound payload.now → IsTypedPayload payload.now → IsUtf8 (payload_text payload.now)
         → depth (payload_data payload.now) ≤ 127
         → (again : Payload) × Decodes (payload_text payload.now) again × SamePayload payload.now again }
+{}
+
+/// An object is a payload exactly where none of its members is wrong, so that what `decode` answers
+/// is determined.
+pub fn a_payload_has_no_wrong_member()
+    ensures { (d : Data) → is_some (payload_of d) ≡ not (is_some (wrong_member d)) }
 {}

@@ -20,6 +20,8 @@ mod read;
 mod tests;
 mod text;
 
-pub use laws::{payload_text_is_one_line, payload_text_is_read_back};
+pub use laws::{
+    a_payload_has_no_wrong_member, payload_text_is_one_line, payload_text_is_read_back,
+};
 pub use read::{PayloadRefusal, decode};
 pub use text::encode;
