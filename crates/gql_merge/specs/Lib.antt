@@ -2,3 +2,4 @@ pub mod Steps
 pub mod Order
 pub mod Apply
 pub mod Runs
+pub mod Report

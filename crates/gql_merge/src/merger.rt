@@ -1,9 +1,11 @@
-ghost use Rattle.std.specs.Prelude.{◌≡◌, ◌⊎◌, Ok, Err, OnOk, OnErr, not};
+ghost use Rattle.std.specs.Prelude.{◌≡◌, Ok, Err, IfOk, OnOk, OnErr, not};
 ghost use Rattle.std.specs.Option.{option_copied};
 ghost use Rattle.gql_merge.specs.Apply.{OnRefusal, Apply, fresh};
+ghost use Rattle.gql_merge.specs.Report.{report_of};
 
 use crate::{MergeRefusal, State};
-use gql_tree::{Failure, Fault, Listed, Payload, Pending, TryCopy, Value};
+use gql_payload::encode_report;
+use gql_tree::{Failure, Fault, Listed, NoMemory, Payload, Pending, Text, TryCopy, Value};
 use std::alloc::Global;
 
 /// The client's end of one answer: payloads in, one response out.
@@ -79,5 +81,18 @@ impl Merger {
         ensures { result.now ≡ self.now.state.failures }
     {
         self.state.failures.as_slice()
+    }
+
+    /// The merged data, the errors and the failures as compact JSON, and `none` where no payload was
+    /// taken.
+    pub fn report(&self) -> Result<Text, NoMemory>
+        ensures { IfOk result (λ text. text ≡ report_of self.now.state) }
+    {
+        let errors = self.state.errors.as_slice();
+        let failures = self.state.failures.as_slice();
+        match &self.state.value {
+            None => Text::copy_of(self.alloc, "none"),
+            Some(value) => encode_report(self.alloc, value, errors, failures),
+        }
     }
 }

@@ -143,6 +143,7 @@ fn payloads_refused(rt: HostRuntime) -> Result<(), Fail> {
     let alloc = rt.alloc();
     let mut merger = Merger::new(alloc);
     assert_eq!(rt; name_of(merger.apply(&announced(alloc)?)), "Ok");
+    let before = "{\"data\":{\"hero\":{\"id\":\"1\"}},\"errors\":[],\"failures\":[]}";
     for (what, refusal) in [
         ("an entry of no id", "UnknownId"),
         ("completed twice", "UnknownId"),
@@ -159,10 +160,58 @@ fn payloads_refused(rt: HostRuntime) -> Result<(), Fail> {
             "{what}"
         );
         assert_eq!(rt; merger.open_ids().len(), 1, "{what}");
+        assert_eq!(rt; merger.report()?.as_str(), before, "{what}");
         assert!(rt; merger.has_next());
     }
     assert_eq!(rt; name_of(merger.apply(&delivered(alloc)?)), "Ok");
     assert_eq!(rt; name_of(merger.apply(&delivered(alloc)?)), "AfterEnd");
     assert!(rt; !merger.has_next());
+    let whole =
+        "{\"data\":{\"hero\":{\"id\":\"1\",\"name\":\"Luke\"}},\"errors\":[],\"failures\":[]}";
+    assert_eq!(rt; merger.report()?.as_str(), whole);
+    Ok(())
+}
+
+#[test]
+fn first_payloads(rt: HostRuntime) -> Result<(), Fail> {
+    let alloc = rt.alloc();
+    let mut merger = Merger::new(alloc);
+    assert!(rt; merger.merged().is_none());
+    assert_eq!(rt; merger.report()?.as_str(), "none");
+    assert_eq!(rt;
+        name_of(merger.apply(&blank(alloc, Some(true)))),
+        "BadInitial"
+    );
+    let mut payload = announced(alloc)?;
+    payload.pending.push(pending(alloc, "0", "")?)?;
+    assert_eq!(rt; name_of(merger.apply(&payload)), "IdTwice");
+    assert_eq!(rt; merger.report()?.as_str(), "none");
+    let mut payload = blank(alloc, None);
+    payload.errors.push(fault(alloc, "b", 2)?)?;
+    payload.errors.push(fault(alloc, "a", 3)?)?;
+    payload.errors.push(fault(alloc, "a", 1)?)?;
+    assert_eq!(rt; name_of(merger.apply(&payload)), "Ok");
+    assert_eq!(rt; merger.errors().len(), 3);
+    let report =
+        "{\"data\":null,\"errors\":[{\"locations\":[{\"column\":1,\"line\":1}],\"message\":\"a\"},{\"locations\":[{\"column\":3,\"line\":1}],\"message\":\"a\"},{\"locations\":[{\"column\":2,\"line\":1}],\"message\":\"b\"}],\"failures\":[]}";
+    assert_eq!(rt; merger.report()?.as_str(), report);
+    Ok(())
+}
+
+#[test]
+fn failed_fragments(rt: HostRuntime) -> Result<(), Fail> {
+    let alloc = rt.alloc();
+    let mut merger = Merger::new(alloc);
+    assert_eq!(rt; name_of(merger.apply(&announced(alloc)?)), "Ok");
+    let mut failed = completed(alloc, "0")?;
+    failed.errors.push(fault(alloc, "bang", 41)?)?;
+    let mut payload = blank(alloc, Some(true));
+    payload.completed.push(failed)?;
+    assert_eq!(rt; name_of(merger.apply(&payload)), "Ok");
+    assert_eq!(rt; merger.failed().len(), 1);
+    assert_eq!(rt; name_of(merger.apply(&delivered(alloc)?)), "UnknownId");
+    let report =
+        "{\"data\":{\"hero\":{\"id\":\"1\"}},\"errors\":[],\"failures\":[{\"errors\":[{\"locations\":[{\"column\":41,\"line\":1}],\"message\":\"bang\"}],\"label\":\"D\",\"path\":[\"hero\"]}]}";
+    assert_eq!(rt; merger.report()?.as_str(), report);
     Ok(())
 }

@@ -6,3 +6,4 @@ pub mod Printed
 pub mod Orderly
 pub mod Back
 pub mod Wrong
+pub mod Reports

@@ -32,12 +32,12 @@ ArePlain (m ∷ ms) = IsPlain m.1 × ArePlain ms
 or_false : (a b : Bool) → a ≡ false → b ≡ false → a || b ≡ false
 or_false a b e f = rw (e, f) refl
 
-members_plain : (ms : List Part) → ArePlain ms → members_have_float (members ms) ≡ false
+pub members_plain : (ms : List Part) → ArePlain ms → members_have_float (members ms) ≡ false
 members_plain [] h = refl
 members_plain ((name, None) ∷ ms) h = members_plain ms h.1
 members_plain ((name, Some d) ∷ ms) h = or_false _ _ h.0 (members_plain ms h.1)
 
-items_plain : {X : Type 0} (f : X → Data) (xs : List X) → ((x : X) → has_float (f x) ≡ false) → items_have_float (items_of (map f xs)) ≡ false
+pub items_plain : {X : Type 0} (f : X → Data) (xs : List X) → ((x : X) → has_float (f x) ≡ false) → items_have_float (items_of (map f xs)) ≡ false
 items_plain f [] each = refl
 items_plain f (x ∷ xs) each = or_false _ _ (each x) (items_plain f xs each)
 
@@ -45,7 +45,7 @@ unless_empty_plain : {X : Type 0} (f : X → Data) (xs : List X) → ((x : X) �
 unless_empty_plain f [] each = tt
 unless_empty_plain f (x ∷ xs) each = items_plain f (x ∷ xs) each
 
-if_some_plain : {X : Type 0} (f : X → Data) (o : Option X) → ((x : X) → has_float (f x) ≡ false) → IsPlain (if_some f o)
+pub if_some_plain : {X : Type 0} (f : X → Data) (o : Option X) → ((x : X) → has_float (f x) ≡ false) → IsPlain (if_some f o)
 if_some_plain f None each = tt
 if_some_plain f (Some x) each = each x
 
@@ -53,7 +53,7 @@ key_plain : (k : Key) → has_float (key_data k) ≡ false
 key_plain (Name n) = refl
 key_plain (Index i) = refl
 
-path_plain : (p : Path) → has_float (path_data p) ≡ false
+pub path_plain : (p : Path) → has_float (path_data p) ≡ false
 path_plain p = items_plain key_data p.keys key_plain
 
 located : (b : Bool) (line column : ℕ) → IsPlain (elim b [ true ↦ None | false ↦ Some (json.array (json.item (location line column) json.no_items)) ])
@@ -63,7 +63,7 @@ located false line column = refl
 locations_plain : (line column : ℕ) → IsPlain (locations line column)
 locations_plain line column = located (line == 0) line column
 
-fault_plain : (f : Fault) → has_float (fault_data f) ≡ false
+pub fault_plain : (f : Fault) → has_float (fault_data f) ≡ false
 fault_plain f = members_plain (fault_parts f) (locations_plain f.line f.column, (refl, (if_some_plain path_data f.path path_plain, tt)))
 
 pending_plain : (p : Pending) → has_float (pending_data p) ≡ false

@@ -3,3 +3,4 @@ pub mod OneLine
 pub mod Reading
 pub mod WrongAt
 pub mod Typed
+pub mod ReportText

@@ -16,6 +16,7 @@ mod laws;
 mod objects;
 mod parts;
 mod read;
+mod report;
 #[cfg(test)]
 mod tests;
 mod text;
@@ -24,4 +25,5 @@ pub use laws::{
     a_payload_has_no_wrong_member, payload_text_is_one_line, payload_text_is_read_back,
 };
 pub use read::{PayloadRefusal, decode};
+pub use report::encode_report;
 pub use text::encode;

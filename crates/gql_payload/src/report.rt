@@ -1,0 +1,57 @@
+//! The report of a merged answer.
+
+ghost use Rattle.std.specs.Prelude.{◌≡◌, IfOk};
+ghost use Rattle.serde_json.specs.View.{view};
+ghost use Rattle.gql_payload.specs.ReportText.{failure_data, report_data, report_text};
+
+use crate::parts::{ToSerde, array, if_some, put_some};
+use gql_tree::{Failure, Fault, NoMemory, Text, Value};
+use serde_json::Map;
+use std::alloc::Global;
+
+impl ToSerde for Failure {
+    ghost datum = { failure_data };
+
+    fn to_serde(&self, alloc: Global) -> Result<serde_json::Value, NoMemory> {
+        let path = self.path.to_serde(alloc)?;
+        let label = if_some(alloc, &self.label)?;
+        let errors = array(alloc, self.errors.as_slice())?;
+        let mut map = Map::new(alloc);
+        put_some(&mut map, alloc, "path", Some(path))?;
+        put_some(&mut map, alloc, "label", label)?;
+        put_some(&mut map, alloc, "errors", Some(errors))?;
+        Ok(serde_json::Value::Object(map))
+    }
+}
+
+fn report_json(
+    alloc: Global,
+    value: &Value,
+    errors: &[Fault],
+    failures: &[Failure],
+) -> Result<serde_json::Value, NoMemory>
+    ensures { IfOk result (λ json. view json ≡ report_data value.now errors.now failures.now) }
+{
+    let failures = array(alloc, failures)?;
+    let errors = array(alloc, errors)?;
+    let data = value.to_serde(alloc)?;
+    let mut map = Map::new(alloc);
+    put_some(&mut map, alloc, "failures", Some(failures))?;
+    put_some(&mut map, alloc, "errors", Some(errors))?;
+    put_some(&mut map, alloc, "data", Some(data))?;
+    Ok(serde_json::Value::Object(map))
+}
+
+/// The compact JSON of an answer's data, its errors, and what was announced and failed. All three
+/// members are there; a failure has no label where there is none. Refuses only for want of memory.
+pub fn encode_report(
+    alloc: Global,
+    value: &Value,
+    errors: &[Fault],
+    failures: &[Failure],
+) -> Result<Text, NoMemory>
+    ensures { IfOk result (λ text. text ≡ report_text value.now errors.now failures.now) }
+{
+    let json = report_json(alloc, value, errors, failures)?;
+    Ok(Text::from_string(json.to_string(alloc)?))
+}
