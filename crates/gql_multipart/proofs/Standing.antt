@@ -1,11 +1,6 @@
 -- A reader that stands for a past answers as the past has it.
-use Rattle.std.proofs.Common.{Bor, ◌≡◌, ℕ, Bool, true, false, ◌+◌, ◌⊎◌, inl, inr, IsTrue, List, [], ◌∷◌, ◌++◌, length, Result, Ok, Err, refl, sym, ap, ◌∙◌, subst, arith, ◌≤◌, ◌<◌, IfOk}
-use Rattle.std.proofs.lemmas.List.{append_cancel_left}
+use Rattle.std.proofs.Common.{◌≡◌, ℕ, Bool, true, false, ◌+◌, IsTrue, List, [], ◌∷◌, ◌++◌, length, Result, Ok, Err, refl, sym, ap, ◌∙◌, subst, arith, ◌≤◌, ◌<◌, IfOk}
 use Rattle.std.specs.List.{AllByRecursion as Each}
-use Rattle.gql_multipart.specs.declared.reader.FrameRefusal.{FrameRefusal}
-use Rattle.gql_multipart.specs.declared.reader.Step.{Step}
-use Rattle.gql_multipart.specs.declared.reader.Step.TheVariants as step
-use Rattle.gql_multipart.specs.declared.reader.Step.TheVariants.{Part}
 use Rattle.gql_multipart.specs.declared.read.Stop.{Stop}
 use Rattle.gql_multipart.specs.declared.read.Stop.TheVariants.{More, Ended, Refused}
 use Rattle.gql_multipart.specs.declared.read.Found.{Found}

@@ -1,19 +1,17 @@
 -- Which groups and items of a forest are delivered, which fragments and streams are announced, and which of those fail.
 -- Source: incremental delivery of the GraphQL standard, as a profile. No time is in these definitions.
-use Rattle.std.specs.Prelude.{ℕ, zero, suc, nat_lt, Bool, true, false, not, ◌&&◌, ◌||◌, List, [], ◌∷◌, ◌++◌, length, filter, find, map, Option, Some, None, option_and_then, if◌then◌else◌}
+use Rattle.std.specs.Prelude.{ℕ, zero, suc, nat_lt, Bool, true, false, not, ◌&&◌, ◌||◌, List, [], ◌∷◌, ◌++◌, length, filter, find, Option, Some, None, option_and_then}
 use Rattle.std.specs.List.{list_any, list_all}
-use Rattle.gql_tree.specs.declared.path.Key.TheVariants.{Index}
 use Rattle.gql_tree.specs.declared.path.Path.{Path}
 use Rattle.gql_tree.specs.declared.delivery.FragId.{FragId}
 use Rattle.gql_tree.specs.declared.delivery.Frag.{Frag}
 use Rattle.gql_tree.specs.declared.delivery.Group.{Group}
 use Rattle.gql_tree.specs.declared.delivery.Stream.{Stream}
-use Rattle.gql_tree.specs.declared.delivery.Fault.{Fault}
 use Rattle.gql_tree.specs.declared.delivery.Outcome.TheVariants.{Good, Failed}
 use Rattle.gql_tree.specs.declared.delivery.RegionResult.{RegionResult}
 use Rattle.gql_tree.specs.declared.delivery.TaskWork.TheVariants.{Fields, Item}
 use Rattle.gql_tree.specs.Keys.{same_fragment, same_lists, same_key}
-use Rattle.gql_tree.specs.Forest.{Forest, Branches, grown, none, more, region, branches}
+use Rattle.gql_tree.specs.Forest.{Forest, Branches, grown, none, more, region}
 
 -- the region reached its beginning with a value
 abbrev pub is_good : RegionResult → Bool

@@ -1,14 +1,12 @@
 -- What a client has in the end that was sent all payloads of a forest. No order of the tasks is in this definition.
 -- Source: incremental delivery of the GraphQL standard, as a profile.
-use Rattle.std.specs.Prelude.{◌≡◌, ◌↔◌, ℕ, ◌+◌, Bool, true, false, not, ◌&&◌, List, [], ◌∷◌, ◌++◌, length, filter, find, map, flat_map, Contains, Option, Some, None, option_map, if◌then◌else◌}
+use Rattle.std.specs.Prelude.{◌≡◌, ◌↔◌, ℕ, ◌+◌, Bool, true, not, ◌&&◌, List, [], ◌∷◌, ◌++◌, length, filter, find, map, flat_map, Contains, Option, Some, None, option_map, if◌then◌else◌}
 use Rattle.gql_tree.specs.declared.path.Key.{Key}
 use Rattle.gql_tree.specs.declared.path.Key.TheVariants.{Index}
 use Rattle.gql_tree.specs.declared.value.Value.{Value}
 use Rattle.gql_tree.specs.declared.delivery.Fault.{Fault}
 use Rattle.gql_tree.specs.declared.delivery.Failure.{Failure}
-use Rattle.gql_tree.specs.declared.delivery.Frag.{Frag}
 use Rattle.gql_tree.specs.declared.delivery.FragId.{FragId}
-use Rattle.gql_tree.specs.declared.delivery.Group.{Group}
 use Rattle.gql_tree.specs.declared.delivery.Stream.{Stream}
 use Rattle.gql_tree.specs.declared.delivery.RegionResult.{RegionResult}
 use Rattle.gql_tree.specs.declared.delivery.TaskWork.TheVariants.{Fields, Item}
@@ -16,9 +14,9 @@ use Rattle.gql_tree.specs.Keys.{same_lists, same_key}
 use Rattle.gql_tree.specs.Flat.{Mark, list, flat}
 use Rattle.gql_tree.specs.Order.{group_cmp, fault_cmp, failure_cmp}
 use Rattle.gql_tree.specs.Ordered.{ordered}
-use Rattle.gql_tree.specs.Forest.{Forest, Branches, grown, none, more, region, branches}
+use Rattle.gql_tree.specs.Forest.{Forest, Branches, grown, none, more, region}
 use Rattle.gql_tree.specs.FirstPayloads.{value_of}
-use Rattle.gql_tree.specs.Fate.{is_good, GroupRun, ItemRun, Scope, scope_of, groups_of, is_ok, is_delivered, is_announced, items_run, items_of_stream, is_item_delivered}
+use Rattle.gql_tree.specs.Fate.{is_good, ItemRun, Scope, scope_of, groups_of, is_ok, is_delivered, is_announced, items_run, items_of_stream, is_item_delivered}
 
 -- ---- what is delivered
 
@@ -84,8 +82,8 @@ below s here items (more (Fields g) (grown r inner) bs) =
     (both (below s (is_delivered s g) (items_run inner) inner) (below s here items bs))
 below s here items (more (Item st i) (grown r inner) bs) =
     both (if here && is_item_delivered items st i
-        then whole_scope (st.path.keys ++ Index i ∷ []) r (items_run inner) (scope_of (grown r inner)) (below (scope_of (grown r inner)) true (items_run inner) inner)
-        else nothing)
+    then whole_scope (st.path.keys ++ Index i ∷ []) r (items_run inner) (scope_of (grown r inner)) (below (scope_of (grown r inner)) true (items_run inner) inner)
+    else nothing)
     (below s here items bs)
 
 abbrev pub delivery : Forest → Delivery

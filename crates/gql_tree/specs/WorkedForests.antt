@@ -1,8 +1,7 @@
 -- Forests whose deliveries are written out.
 use Rattle.std.specs.Prelude.{ℕ, List, [], ◌∷◌, Option, Some, None, codes}
 use Rattle.gql_tree.specs.declared.path.Key.{Key}
-use Rattle.gql_tree.specs.declared.path.Key.TheVariants.{Name, Index}
-use Rattle.gql_tree.specs.declared.value.Value.{Value}
+use Rattle.gql_tree.specs.declared.path.Key.TheVariants.{Name}
 use Rattle.gql_tree.specs.declared.value.Value.TheVariants as v
 use Rattle.gql_tree.specs.declared.delivery.Fault.{Fault}
 use Rattle.gql_tree.specs.declared.delivery.Frag.{Frag}
@@ -14,7 +13,7 @@ use Rattle.gql_tree.specs.declared.delivery.Outcome.TheVariants.{Good, Failed}
 use Rattle.gql_tree.specs.declared.delivery.RegionResult.{RegionResult}
 use Rattle.gql_tree.specs.declared.delivery.TaskWork.TheVariants.{Fields, Item}
 use Rattle.gql_tree.specs.Samples.{object}
-use Rattle.gql_tree.specs.Forest.{Forest, Branches, grown, none, more}
+use Rattle.gql_tree.specs.Forest.{Forest, grown, none, more}
 
 -- ---- deferred fragments at `hero`
 

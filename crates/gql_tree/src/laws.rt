@@ -43,15 +43,23 @@ pub fn payload_texts()
 /// What is delivered of some forests, and what fails.
 pub fn deliveries()
     ensures late_name { delivery late_name ≡ record {
-        parts = part [] (region late_name) ∷ part hero luke ∷ []; lists = []; failures = [] } }
+      parts = part [] (region late_name) ∷ part hero luke ∷ [];
+      lists = [];
+      failures = [];
+    } }
     ensures shared_name { delivery shared_name ≡ record {
-        parts = part [] (region shared_name) ∷ part hero luke ∷ []; lists = [];
-        failures = record { path = record { keys = hero }; label = Some (codes "A"); errors = bang ∷ [] } ∷ [] } }
+      parts = part [] (region shared_name) ∷ part hero luke ∷ [];
+      lists = [];
+      failures = record { path = record { keys = hero }; label = Some (codes "A"); errors = bang ∷ [] } ∷ [];
+    } }
     ensures nested_name { delivery nested_name ≡ record {
-        parts = part [] (region nested_name) ∷ []; lists = [];
-        failures = record { path = record { keys = hero }; label = Some (codes "A"); errors = bang ∷ [] } ∷ [] } }
+      parts = part [] (region nested_name) ∷ [];
+      lists = [];
+      failures = record { path = record { keys = hero }; label = Some (codes "A"); errors = bang ∷ [] } ∷ [];
+    } }
     ensures streamed { delivery streamed ≡ record {
-        parts = part [] (region streamed) ∷ part (crew ++ Index 1 ∷ []) (item (codes "Leia")) ∷ [];
-        lists = record { at = crew; length = 2 } ∷ [];
-        failures = record { path = record { keys = crew }; label = Some (codes "S"); errors = bang ∷ [] } ∷ [] } }
+      parts = part [] (region streamed) ∷ part (crew ++ Index 1 ∷ []) (item (codes "Leia")) ∷ [];
+      lists = record { at = crew; length = 2 } ∷ [];
+      failures = record { path = record { keys = crew }; label = Some (codes "S"); errors = bang ∷ [] } ∷ [];
+    } }
 {}
