@@ -1,0 +1,5 @@
+pub mod Answers
+pub mod Determined
+pub mod Found
+pub mod Places
+pub mod Runs

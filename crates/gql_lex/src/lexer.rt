@@ -1,0 +1,108 @@
+//! The lexer.
+
+ghost use Rattle.std.specs.Prelude.{◌≡◌, ℕ, List, [], ◌++◌, ◌+◌, ◌<◌, ◌≤◌, ◌-◌, length, take, drop, slice_index};
+ghost use Rattle.gql_lex.specs.Places.{spot_at};
+
+use crate::place::behind_all;
+use crate::run::{Pieces, run_len};
+use crate::scan::{Found, front, refusal};
+use crate::token::{LexRefusal, Token, TokenKind};
+use gql_tree::Spot;
+
+/// Gives the tokens of a text one after another.
+#[derive(Drop)]
+pub struct Lexer<'a> {
+    /// What is left of the text.
+    rest: &'a str,
+    /// How many bytes are done.
+    start: usize,
+    /// Where `rest` begins.
+    spot: Spot,
+    ghost few: { start + length rest.now < 4294967295 },
+    ghost line: { spot.line ≤ start + 1 },
+    ghost column: { spot.column ≤ start + 1 },
+}
+
+impl<'a> Lexer<'a> {
+    ghost use Rattle.gql_lex.specs.Tokens.{Stands, next_of, done_with, told};
+
+    /// A lexer that stands before the first byte of a text, which has fewer than 4,294,967,295 bytes.
+    pub fn new(text: &'a str) -> Lexer<'a>
+        requires { length text.now < 4294967295 }
+        ensures stands { Stands [] result }
+        ensures text { result.rest.now ≡ text.now }
+    {
+        Lexer {
+            rest: text,
+            start: 0,
+            spot: Spot { line: 1, column: 1 },
+        }
+    }
+
+    /// The next token, none at the end of the text, or what stands there that is no token. At the end
+    /// and after a refusal the lexer stays where it is, so each further call gives the same.
+    pub fn next(&mut self) -> Result<Option<Token<'a>>, LexRefusal>
+        ensures answer { (passed : List ℕ) → Stands passed self.old → told result ≡ next_of passed self.old.rest.now }
+        ensures stands { (passed : List ℕ) → Stands passed self.old →
+            Stands (passed ++ take (done_with self.old.rest.now) self.old.rest.now) self.new }
+        ensures rest { self.new.rest.now ≡ drop (done_with self.old.rest.now) self.old.rest.now }
+    {
+        let bytes = self.rest.as_bytes();
+        let blanks = run_len(Pieces::Blanks, bytes);
+        match front(&bytes[blanks..]) {
+            None => Ok(None),
+            Some(Found::Token(kind, len)) => Ok(Some(self.give(blanks, kind, len))),
+            Some(Found::Wrong(fault, inside)) => {
+                let spot = behind_all(self.spot, bytes, blanks + inside);
+                Err(refusal(fault, spot))
+            }
+        }
+    }
+
+    /// Gives the token of `len` bytes that stands behind `blanks` bytes, and goes behind it.
+    fn give(&mut self, blanks: usize, kind: TokenKind, len: usize) -> Token<'a>
+        requires some { 0 < len }
+        requires fits { blanks + len ≤ length self.old.rest.now }
+        requires first { slice_index self.old.rest.now blanks < 128 }
+        requires last { slice_index self.old.rest.now (blanks + (len - 1)) < 128 }
+        ensures kind { result.kind ≡ kind }
+        ensures text { result.text.now ≡ take len (drop blanks self.old.rest.now) }
+        ensures start { result.start ≡ self.old.start + blanks }
+        ensures spot { (passed : List ℕ) → self.old.spot ≡ spot_at passed self.old.rest.now →
+            result.spot ≡ spot_at (passed ++ take blanks self.old.rest.now) (drop blanks self.old.rest.now) }
+        ensures rest { self.new.rest.now ≡ drop (blanks + len) self.old.rest.now }
+        ensures behind { self.new.start ≡ self.old.start + (blanks + len) }
+        ensures place { (passed : List ℕ) → self.old.spot ≡ spot_at passed self.old.rest.now →
+            self.new.spot ≡ spot_at (passed ++ take (blanks + len) self.old.rest.now) (drop (blanks + len) self.old.rest.now) }
+    {
+        let bytes = self.rest.as_bytes();
+        let start = self.start + blanks;
+        let spot = behind_all(self.spot, bytes, blanks);
+        let behind = behind_all(self.spot, bytes, blanks + len);
+        let (text, rest) = cut(self.rest, blanks, len);
+        *self = Lexer {
+            rest,
+            start: start + len,
+            spot: behind,
+        };
+        Token {
+            kind,
+            text,
+            start,
+            spot,
+        }
+    }
+}
+
+/// The `len` bytes behind the first `blanks` ones, and what follows them.
+fn cut(text: &str, blanks: usize, len: usize) -> (&str, &str)
+    requires some { 0 < len }
+    requires fits { blanks + len ≤ length text.now }
+    requires first { slice_index text.now blanks < 128 }
+    requires last { slice_index text.now (blanks + (len - 1)) < 128 }
+    ensures token { result.0.now ≡ take len (drop blanks text.now) }
+    ensures rest { result.1.now ≡ drop (blanks + len) text.now }
+{
+    let (_, here) = text.split_at(blanks);
+    here.split_at(len)
+}

@@ -1,0 +1,24 @@
+//! The tokens of a GraphQL document.
+//!
+//! `Lexer` gives the tokens of a text one after another, by section 2.1 of the standard of October
+//! 2021, each with its kind, its slice of the text and its place, or says what stands there that is
+//! no token. It takes no memory.
+//!
+//! Its contract: a lexer stands behind the bytes that are done (`Stands` of specs/Tokens.antt), and
+//! `next` gives what `next_of` defines there. The tokens of a text are determined: the contract of
+#![tactic(auto)]
+
+mod laws;
+mod lexer;
+mod number;
+mod place;
+mod run;
+mod scan;
+mod string;
+#[cfg(test)]
+mod tests;
+mod token;
+
+pub use laws::tokens_are_determined;
+pub use lexer::Lexer;
+pub use token::{LexRefusal, Token, TokenKind};

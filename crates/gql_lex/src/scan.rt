@@ -1,0 +1,116 @@
+//! What stands at the front of a text that no blank begins.
+
+ghost use Rattle.std.specs.Prelude.{◌≡◌, ℕ, ◌≤◌, ◌<◌, ◌^◌, ◌+◌, length, IfSome};
+ghost use Rattle.gql_lex.specs.Found.{Lies, BeginsPlain};
+ghost use Rattle.std.specs.List.{prefix_len};
+ghost use Rattle.gql_lex.specs.Classes.{begins_name, continues_name, is_mark};
+ghost use Rattle.gql_lex.specs.Front.{front};
+ghost use Rattle.gql_lex.specs.Tokens.{refusal};
+
+use crate::number::number;
+use crate::string::string;
+use crate::token::{LexRefusal, TokenKind};
+use gql_tree::Spot;
+
+/// What stands at the front.
+#[derive(Clone, Copy)]
+pub(crate) enum Found {
+    /// A token, and how many bytes it takes.
+    Token(TokenKind, usize),
+    /// What is no token, and how many bytes stand before it.
+    Wrong(Fault, usize),
+}
+
+/// What is wrong.
+#[derive(Clone, Copy)]
+pub(crate) enum Fault {
+    Character,
+    Escape,
+    Open,
+    Number,
+    Float,
+}
+
+/// What stands at the front of a text that no blank begins.
+pub(crate) fn front(text: &[u8]) -> Option<Found>
+    requires { length text.now < 2 ^ 32 }
+    ensures value { result ≡ front text.now }
+    ensures lies { IfSome result (Lies text.now) }
+    ensures plain { IfSome result (BeginsPlain text.now) }
+{
+    let [first, rest @ ..] = text else {
+        return None;
+    };
+    if begins_name(*first) {
+        return Some(Found::Token(TokenKind::Name, 1 + name_len(rest)));
+    }
+    if is_mark(*first) {
+        return Some(Found::Token(TokenKind::Punctuator, 1));
+    }
+    if text.starts_with(b"...") {
+        return Some(Found::Token(TokenKind::Punctuator, 3));
+    }
+    if *first == b'-' || first.is_ascii_digit() {
+        return Some(number(text));
+    }
+    if *first == b'"' {
+        return Some(string(rest));
+    }
+    Some(Found::Wrong(Fault::Character, 0))
+}
+
+/// A punctuator of one byte.
+fn is_mark(byte: u8) -> bool
+    ensures { result ≡ is_mark byte }
+{
+    byte == b'!'
+        || byte == b'$'
+        || byte == b'&'
+        || byte == b'('
+        || byte == b')'
+        || byte == b':'
+        || byte == b'='
+        || byte == b'@'
+        || byte == b'['
+        || byte == b']'
+        || byte == b'{'
+        || byte == b'|'
+        || byte == b'}'
+}
+
+/// A name's first character.
+pub(crate) fn begins_name(byte: u8) -> bool
+    ensures { result ≡ begins_name byte }
+{
+    byte == b'_' || byte.is_ascii_alphabetic()
+}
+
+/// A name's character.
+fn continues_name(byte: u8) -> bool
+    ensures { result ≡ continues_name byte }
+{
+    byte == b'_' || byte.is_ascii_alphanumeric()
+}
+
+/// How many characters of a name stand at the front.
+fn name_len(text: &[u8]) -> usize
+    ensures value { result ≡ prefix_len continues_name text.now }
+    ensures within { result ≤ length text.now }
+{
+    text.iter()
+        .take_while(|byte| continues_name(**byte))
+        .count()
+}
+
+/// What is wrong, with its place.
+pub(crate) fn refusal(fault: Fault, spot: Spot) -> LexRefusal
+    ensures { result ≡ refusal fault spot }
+{
+    match fault {
+        Fault::Character => LexRefusal::BadCharacter(spot),
+        Fault::Escape => LexRefusal::BadEscape(spot),
+        Fault::Open => LexRefusal::OpenString(spot),
+        Fault::Number => LexRefusal::BadNumber(spot),
+        Fault::Float => LexRefusal::FloatToken(spot),
+    }
+}
