@@ -1,5 +1,5 @@
 -- How the lexer's answers follow from what stands at the front.
-use Rattle.std.proofs.Common.{◌≡◌, ℕ, zero, suc, ◌+◌, ◌-◌, ◌<◌, ◌≤◌, List, [], ◌∷◌, ◌++◌, length, take, drop, get_or, Option, Some, Result, Err, refl, ap, sym, ◌∙◌, subst, arith, append_assoc, zero-add, length-drop}
+use Rattle.std.proofs.Common.{◌≡◌, ℕ, zero, suc, ◌+◌, ◌-◌, ◌<◌, ◌≤◌, List, [], ◌∷◌, ◌++◌, length, take, drop, get_or, Some, Err, refl, ap, sym, ◌∙◌, subst, arith, append_assoc, zero-add, length-drop}
 use Rattle.std.specs.Str.{IsUtf8, IsCharBoundary}
 use Rattle.std.proofs.lemmas.List.{get_or-drop, drop-drop}
 use Rattle.std.proofs.lemmas.Str.{IsUtf8-drop, IsCharBoundary-before_ascii, IsCharBoundary-after_ascii}
@@ -23,7 +23,8 @@ take-nil : (k : ℕ) → take {A = ℕ} k [] ≡ []
 take-nil zero = refl
 take-nil (suc k) = refl
 
-take-split : (n m : ℕ) (xs : List ℕ) → take (n + m) xs ≡ take n xs ++ take m (drop n xs)
+-- more bytes from the front are those and then more
+pub take-split : (n m : ℕ) (xs : List ℕ) → take (n + m) xs ≡ take n xs ++ take m (drop n xs)
 take-split zero m xs = ap (λ k. take k xs) (zero-add m)
 take-split (suc n) m [] = take-nil (suc n + m) ∙ sym (take-nil m)
 take-split (suc n) m (x ∷ xs) = ap (λ k. take k (x ∷ xs)) (suc-more n m) ∙ ap (λ ys. x ∷ ys) (take-split n m xs)
@@ -36,9 +37,9 @@ pub next_of-wrong : (passed rest : List ℕ) (count inside : ℕ) (fault : Fault
 next_of-wrong passed rest count inside fault spot r count_is found spot_is r_is =
     ap Err r_is
     ∙ ap (λ (s : Spot). Err (refusal fault s))
-      (spot_is
-      ∙ ap (λ p. spot_at (passed ++ p) (drop (count + inside) rest)) (take-split count inside rest)
-      ∙ ap (λ p. spot_at p (drop (count + inside) rest)) (sym (append_assoc passed (take count rest) (take inside (drop count rest))))
-      ∙ ap (spot_at ((passed ++ take count rest) ++ take inside (drop count rest))) (sym (drop-drop inside count rest)))
+    (spot_is
+    ∙ ap (λ p. spot_at (passed ++ p) (drop (count + inside) rest)) (take-split count inside rest)
+    ∙ ap (λ p. spot_at p (drop (count + inside) rest)) (sym (append_assoc passed (take count rest) (take inside (drop count rest))))
+    ∙ ap (spot_at ((passed ++ take count rest) ++ take inside (drop count rest))) (sym (drop-drop inside count rest)))
     ∙ ap (answer_by (passed ++ take count rest) (drop count rest)) found
     ∙ ap (λ n. answer_by (passed ++ take n rest) (drop n rest) (front (drop n rest))) count_is

@@ -1,5 +1,5 @@
 -- The tokens of a text are determined.
-use Rattle.std.proofs.Common.{◌≡◌, ℕ, List, [], ◌∷◌, ◌++◌, take, drop, Option, Some, None, Result, Ok, Err, refl, ap, sym, ◌∙◌}
+use Rattle.std.proofs.Common.{◌≡◌, ℕ, List, [], ◌∷◌, ◌++◌, take, drop, Option, Some, Result, Ok, refl, sym, ◌∙◌}
 use Rattle.gql_lex.specs.declared.token.LexRefusal.{LexRefusal}
 use Rattle.gql_lex.specs.Tokens.{Lexeme, End, Whole, Refused, ended, done_with, Lexes}
 

@@ -11,7 +11,7 @@ use Rattle.gql_lex.specs.declared.scan.Found.{Found}
 use Rattle.gql_lex.specs.declared.scan.Found.TheVariants.{Token, Wrong}
 use Rattle.gql_lex.specs.declared.token.TokenKind.{TokenKind}
 use Rattle.gql_lex.specs.Classes.{begins_name, continues_name}
-use Rattle.gql_lex.specs.Found.{Lies, BeginsPlain, Encloses}
+use Rattle.gql_lex.specs.Found.{Lies, Encloses}
 use Rattle.gql_lex.specs.Numbers.{digits, minus_len, whole_len, integer_len}
 
 both_true : (a b : Bool) → a && b ≡ true → (a ≡ true) × (b ≡ true)
@@ -48,7 +48,7 @@ Lies-quoted text count found is fits closes =
     let b = begins_with (drop count text) 34 closes in
     let long : count + 2 ≤ length (34 ∷ text) = omega (arith, b.0, length-drop count text) in
     Lies-closed (34 ∷ text) count 2 found is (omega arith) long
-      (small_behind (34 ∷ text) (count + 2 - 1) (suc (count + 0)) (omega arith) (small_at text count 0 34 b.1 (lit< tt)))
+    (small_behind (34 ∷ text) (count + 2 - 1) (suc (count + 0)) (omega arith) (small_at text count 0 34 b.1 (lit< tt)))
 
 -- a block string ends at its last quote
 pub Lies-block : (text : List ℕ) (count : ℕ) (found : Found) → Encloses count 6 found → count ≤ length text → starts_with nat_eq (drop count text) (34 ∷ 34 ∷ 34 ∷ []) ≡ true → Lies (34 ∷ 34 ∷ 34 ∷ text) found
@@ -56,7 +56,7 @@ Lies-block text count found is fits closes =
     let b = begins_with_three (drop count text) 34 closes in
     let long : count + 6 ≤ length (34 ∷ 34 ∷ 34 ∷ text) = omega (arith, b.0, length-drop count text) in
     Lies-closed (34 ∷ 34 ∷ 34 ∷ text) count 6 found is (omega arith) long
-      (small_behind (34 ∷ 34 ∷ 34 ∷ text) (count + 6 - 1) (suc (suc (suc (count + 2)))) (omega arith) (small_at text count 2 34 b.1 (lit< tt)))
+    (small_behind (34 ∷ 34 ∷ 34 ∷ text) (count + 6 - 1) (suc (suc (suc (count + 2)))) (omega arith) (small_at text count 2 34 b.1 (lit< tt)))
 
 -- ---- numbers and names
 
@@ -84,7 +84,7 @@ last_integer text some = by (whole_len (drop (minus_len text) text) == 0) refl s
     by false is h =
         let more : 0 < whole_len (drop (minus_len text) text) = grind (arith, nat_tests) in
         small_behind text (minus_len text + whole_len (drop (minus_len text) text) - 1) (minus_len text + (whole_len (drop (minus_len text) text) - 1)) (omega arith)
-          (small_at text (minus_len text) (whole_len (drop (minus_len text) text) - 1) (get_or (drop (minus_len text) text) (whole_len (drop (minus_len text) text) - 1) 0) refl (last_whole (drop (minus_len text) text) more))
+        (small_at text (minus_len text) (whole_len (drop (minus_len text) text) - 1) (get_or (drop (minus_len text) text) (whole_len (drop (minus_len text) text) - 1) 0) refl (last_whole (drop (minus_len text) text) more))
 
 -- an integer ends at a digit
 pub Lies-integer : (text : List ℕ) (kind : TokenKind) (len : ℕ) → len ≡ integer_len text → 0 < len → len ≤ length text → Lies text (Token kind len)

@@ -50,7 +50,7 @@ pub last_line-more : (passed : List ℕ) (byte : ℕ) (rest : List ℕ) → ends
 last_line-more [] byte rest e = line_of_one (ends_line byte rest) byte e
 last_line-more (first ∷ more) byte rest e =
     ap (λ n. if n == 0 then first ∷ (more ++ byte ∷ []) else last_line (more ++ byte ∷ []) rest)
-      (added_none (lines_ended (first ∷ (more ++ byte ∷ [])) rest) (lines_ended (first ∷ more) (byte ∷ rest)) (ends_line byte rest) (lines_ended-push (first ∷ more) byte rest) e)
+    (added_none (lines_ended (first ∷ (more ++ byte ∷ [])) rest) (lines_ended (first ∷ more) (byte ∷ rest)) (ends_line byte rest) (lines_ended-push (first ∷ more) byte rest) e)
     ∙ ap (λ later. if lines_ended (first ∷ more) (byte ∷ rest) == 0 then first ∷ (more ++ byte ∷ []) else later) (last_line-more more byte rest e)
     ∙ by_test (lines_ended (first ∷ more) (byte ∷ rest) == 0) (first ∷ more) (last_line more (byte ∷ rest)) byte
 

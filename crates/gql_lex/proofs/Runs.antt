@@ -1,7 +1,6 @@
 -- How runs of pieces are counted, a piece at a time.
 use Rattle.std.proofs.Common.{◌≡◌, ℕ, zero, suc, ◌+◌, ◌<◌, ◌≤◌, List, [], ◌∷◌, length, drop, Option, Some, None, refl, ap, sym, ◌∙◌, zero-add, add-one, arith, add_assoc}
 use Rattle.std.proofs.lemmas.List.{drop-drop}
-use Rattle.std.specs.Prelude.{IfSome}
 use Rattle.gql_lex.specs.declared.run.Pieces.{Pieces}
 use Rattle.gql_lex.specs.Runs.{piece, run_len}
 
@@ -36,4 +35,3 @@ run_len-turn pieces text len more is fits =
     ap (λ rest. (len + (more + 1)) + run_len pieces 0 rest) (sym (drop-drop (more + 1) len text))
     ∙ add_assoc len (more + 1) (run_len pieces 0 (drop (more + 1) (drop len text)))
     ∙ ap (λ n. len + n) (sym (run_len-more pieces (drop len text) more is fits))
-

@@ -1,6 +1,6 @@
 -- Classes of bytes. A text is the bytes of its UTF-8; all that the lexical rules name, but for the byte order mark, is ASCII.
-use Rattle.std.specs.Prelude.{ℕ, ◌==◌, nat_lt, nat_le, ◌||◌, ◌&&◌, not, Bool, List, [], ◌∷◌}
-use Rattle.std.specs.Char.{is_ascii_alphabetic, is_ascii_alphanumeric, is_ascii_digit}
+use Rattle.std.specs.Prelude.{ℕ, ◌==◌, nat_lt, ◌||◌, ◌&&◌, not, Bool, List, [], ◌∷◌}
+use Rattle.std.specs.Char.{is_ascii_alphabetic, is_ascii_alphanumeric}
 
 -- LF and CR
 abbrev pub is_line_end : ℕ → Bool

@@ -2,6 +2,7 @@ pub mod Classes
 pub mod Places
 pub mod Runs
 pub mod Numbers
+pub mod Longest
 pub mod Strings
 pub mod Found
 pub mod Front

@@ -43,10 +43,6 @@ blanks rest = run_len Blanks 0 rest
 abbrev pub next_of : List ℕ → List ℕ → Result (Option Lexeme) LexRefusal
 next_of passed rest = answer_by (passed ++ take (blanks rest) rest) (drop (blanks rest) rest) (front (drop (blanks rest) rest))
 
-abbrev pub token_len : Option Found → ℕ
-token_len (Some (found.Token kind len)) = len
-token_len _ = 0
-
 -- how many bytes are done with the next token: the blanks before it and its own; none where there is none
 abbrev pub done_by : ℕ → Option Found → ℕ
 done_by blanks (Some (found.Token kind len)) = blanks + len
@@ -65,10 +61,14 @@ told (Ok None) = Ok None
 told (Ok (Some token)) = Ok (Some (lexeme token))
 told (Err refusal) = Err refusal
 
--- the lexer stands behind `passed`
+-- what is left of the text that a lexer goes over
+abbrev pub left : Lexer → List ℕ
+left lexer = lexer.rest.now
+
+-- the lexer stands behind `passed`: it has counted its bytes, and its lines and columns
 pub record Stands (passed : List ℕ) (lexer : Lexer) : Type 0 where
   pub start : lexer.start ≡ length passed
-  pub spot : lexer.spot ≡ spot_at passed lexer.rest.now
+  pub spot : lexer.spot ≡ spot_at passed (left lexer)
 
 -- ---- the tokens of a text
 

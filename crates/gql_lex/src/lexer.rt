@@ -1,6 +1,6 @@
 //! The lexer.
 
-ghost use Rattle.std.specs.Prelude.{◌≡◌, ℕ, List, [], ◌++◌, ◌+◌, ◌<◌, ◌≤◌, ◌-◌, length, take, drop, slice_index};
+ghost use Rattle.std.specs.Prelude.{◌≡◌, ℕ, List, [], ◌++◌, ◌+◌, ◌<◌, ◌≤◌, ◌-◌, length, take, drop, slice_index, IfOk, IfNone, OnErr};
 ghost use Rattle.gql_lex.specs.Places.{spot_at};
 
 use crate::place::behind_all;
@@ -24,13 +24,13 @@ pub struct Lexer<'a> {
 }
 
 impl<'a> Lexer<'a> {
-    ghost use Rattle.gql_lex.specs.Tokens.{Stands, next_of, done_with, told};
+    ghost use Rattle.gql_lex.specs.Tokens.{Stands, left, next_of, done_with, told};
 
     /// A lexer that stands before the first byte of a text, which has fewer than 4,294,967,295 bytes.
     pub fn new(text: &'a str) -> Lexer<'a>
         requires { length text.now < 4294967295 }
         ensures stands { Stands [] result }
-        ensures text { result.rest.now ≡ text.now }
+        ensures left { left result ≡ text.now }
     {
         Lexer {
             rest: text,
@@ -42,10 +42,12 @@ impl<'a> Lexer<'a> {
     /// The next token, none at the end of the text, or what stands there that is no token. At the end
     /// and after a refusal the lexer stays where it is, so each further call gives the same.
     pub fn next(&mut self) -> Result<Option<Token<'a>>, LexRefusal>
-        ensures answer { (passed : List ℕ) → Stands passed self.old → told result ≡ next_of passed self.old.rest.now }
+        ensures answer { (passed : List ℕ) → Stands passed self.old → told result ≡ next_of passed (left self.old) }
         ensures stands { (passed : List ℕ) → Stands passed self.old →
-            Stands (passed ++ take (done_with self.old.rest.now) self.old.rest.now) self.new }
-        ensures rest { self.new.rest.now ≡ drop (done_with self.old.rest.now) self.old.rest.now }
+            Stands (passed ++ take (done_with (left self.old)) (left self.old)) self.new }
+        ensures left { left self.new ≡ drop (done_with (left self.old)) (left self.old) }
+        ensures ended { IfOk result (λ token. IfNone token (self.new ≡ self.old)) }
+        ensures refused { OnErr result (self.new ≡ self.old) }
     {
         let bytes = self.rest.as_bytes();
         let blanks = run_len(Pieces::Blanks, bytes);

@@ -6,6 +6,8 @@
 //!
 //! Its contract: a lexer stands behind the bytes that are done (`Stands` of specs/Tokens.antt), and
 //! `next` gives what `next_of` defines there. The tokens of a text are determined: the contract of
+//! `tokens_are_determined`. Names and numbers are the longest at their place: that of
+//! `the_longest_are_counted`.
 #![tactic(auto)]
 
 mod laws;
@@ -19,6 +21,6 @@ mod string;
 mod tests;
 mod token;
 
-pub use laws::tokens_are_determined;
+pub use laws::{the_longest_are_counted, tokens_are_determined};
 pub use lexer::Lexer;
 pub use token::{LexRefusal, Token, TokenKind};
