@@ -1,4 +1,4 @@
--- What the types of a payload keep: numbers in the range of their types, and values of their type.
+-- What the types of a payload and of a report keep: numbers in the range of their types, and values of their type.
 use Rattle.std.specs.Prelude.{◌<◌, ◌^◌, IsTrue, IfSome}
 use Rattle.std.specs.List.{AllByRecursion}
 use Rattle.gql_tree.specs.declared.path.Key.{Key}
@@ -11,6 +11,7 @@ use Rattle.gql_tree.specs.declared.delivery.Content.{Content}
 use Rattle.gql_tree.specs.declared.delivery.Content.TheVariants.{Fields, Items}
 use Rattle.gql_tree.specs.declared.delivery.Entry.{Entry}
 use Rattle.gql_tree.specs.declared.delivery.Completed.{Completed}
+use Rattle.gql_tree.specs.declared.delivery.Failure.{Failure}
 use Rattle.gql_tree.specs.declared.delivery.Payload.{Payload}
 use Rattle.gql_tree.specs.Typed.{is_typed}
 
@@ -56,6 +57,12 @@ IsTypedEntry e = record {
 
 abbrev pub IsTypedCompleted : Completed → Type 0
 IsTypedCompleted c = AllByRecursion IsTypedFault c.errors
+
+abbrev pub IsTypedFailure : Failure → Type 0
+IsTypedFailure f = record {
+  path : IsTypedPath f.path;
+  errors : AllByRecursion IsTypedFault f.errors;
+}
 
 abbrev pub IsTypedPayload : Payload → Type 0
 IsTypedPayload p = record {

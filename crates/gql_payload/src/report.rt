@@ -3,6 +3,7 @@
 ghost use Rattle.std.specs.Prelude.{◌≡◌, IfOk};
 ghost use Rattle.serde_json.specs.View.{view};
 ghost use Rattle.gql_payload.specs.ReportText.{failure_data, report_data, report_text};
+ghost use Rattle.gql_payload.specs.Typed.{IsTypedFailure};
 
 use crate::parts::{ToSerde, array, if_some, put_some};
 use gql_tree::{Failure, Fault, NoMemory, Text, Value};
@@ -11,6 +12,8 @@ use std::alloc::Global;
 
 impl ToSerde for Failure {
     ghost datum = { failure_data };
+
+    ghost is_typed = { IsTypedFailure };
 
     fn to_serde(&self, alloc: Global) -> Result<serde_json::Value, NoMemory> {
         let path = self.path.to_serde(alloc)?;
