@@ -1,3 +1,4 @@
+mod Clients
 mod Digits
 mod Files
 mod Fronts

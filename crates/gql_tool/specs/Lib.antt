@@ -9,3 +9,5 @@ pub mod HeroTables
 pub mod WorkedTables
 pub mod Service
 pub mod Hero
+pub mod Client
+pub mod Heard

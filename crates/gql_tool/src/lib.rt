@@ -11,6 +11,7 @@
 //! `proofs/HeroPayloads.antt`, for the contract of `deliver`.
 #![tactic(auto)]
 
+mod client;
 mod command;
 mod deliver;
 mod delivery;
@@ -23,6 +24,7 @@ mod tables;
 mod tests;
 mod words;
 
+pub use client::{Client, ClientRefusal};
 pub use command::{local, tool};
 pub use document::worked_documents;
 pub use status::Status;
