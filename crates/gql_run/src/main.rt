@@ -1,8 +1,9 @@
-//! The program: it takes the words of its command line, calls `tool` over the files of the system and
-//! standard output, and ends with the number of the status. It writes nothing to standard error.
+//! The program: it takes the words of its command line, calls `tool` over the files of the system,
+//! standard input and standard output, and ends with the number of the status. It writes nothing to
+//! standard error.
 #![tactic(auto)]
 
-use gql_io::{FileShelf, StdSink};
+use gql_io::{FileShelf, StdSink, StdSource};
 use gql_tool::{Status, tool};
 use gql_tree::Text;
 use std::alloc::Global;
@@ -40,8 +41,15 @@ fn main(rt: HostRuntime) -> ExitCode {
         Words::NoMemory => Status::NoMemory,
         Words::Read(words) => {
             let mut shelf = FileShelf::new(&rt);
+            let mut input = StdSource::new(rt.stdin());
             let mut output = StdSink::new(rt.stdout());
-            tool(rt.alloc(), words.as_slice(), &mut shelf, &mut output)
+            tool(
+                rt.alloc(),
+                words.as_slice(),
+                &mut shelf,
+                &mut input,
+                &mut output,
+            )
         }
     };
     ExitCode::from(status.number())

@@ -28,7 +28,7 @@ Meets-kept of NoMemory a b c kept (inr front) = inr (front.0, front.1, Prefix-ke
 Meets-kept of _ a b c kept meets = (meets.0, meets.1, meets.2, Appends-kept_first a b c meets.0.bytes kept meets.3)
 
 -- more outcomes are right
-Meets-more : (of more : Ways) (status : Status) (a b : Option (List ℕ)) → ((o : Outcome) → of o → more o) → Meets of status a b → Meets more status a b
+pub Meets-more : (of more : Ways) (status : Status) (a b : Option (List ℕ)) → ((o : Outcome) → of o → more o) → Meets of status a b → Meets more status a b
 Meets-more of more ReadFault a b also meets = meets
 Meets-more of more WriteFault a b also meets = (meets.0, also meets.0 meets.1, meets.2)
 Meets-more of more NoMemory a b also (inl same) = inl same

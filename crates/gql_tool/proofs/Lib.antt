@@ -16,6 +16,7 @@ mod Labels
 mod Numbers
 mod Pieces
 mod Reading
+mod Replays
 mod Rows
 mod Sent
 mod Texts

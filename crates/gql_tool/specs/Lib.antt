@@ -11,3 +11,5 @@ pub mod Service
 pub mod Hero
 pub mod Client
 pub mod Heard
+pub mod Replay
+pub mod Hearing

@@ -7,7 +7,8 @@ use Rattle.gql_tool.specs.declared.status.Status.{Status}
 use Rattle.gql_tool.specs.declared.status.Status.TheVariants.{Done, Refused, Usage, ReadFault, WriteFault, NoMemory, StreamRefused, NoFile, DoorFault, InputsRefused, TooLong}
 use Rattle.gql_tool.specs.Outcome.{Outcome, Ways, names, file_limit}
 use Rattle.gql_tool.specs.Local.{LocalWays}
-use Rattle.gql_tool.specs.Words.{Form, LocalForm}
+use Rattle.gql_tool.specs.Replay.{ReplayWays, IsReplayed}
+use Rattle.gql_tool.specs.Words.{Form, LocalForm, ReplayForm}
 
 -- a right outcome's status, and all of its bytes
 abbrev pub Whole : Ways → Status → Option (List ℕ) → Option (List ℕ) → Type 0
@@ -25,28 +26,44 @@ Meets ways WriteFault old new = Front ways old new
 Meets ways NoMemory old new = Keeps old new ⊎ Front ways old new
 Meets ways status old new = Whole ways status old new
 
--- the same where the shelf tells
-abbrev pub MeetsTold : Option Files → (Files → Ways) → Status → Option (List ℕ) → Option (List ℕ) → Type 0
-MeetsTold (Some files) of status old new = Meets (of files) status old new
+-- the same where the shelf tells its files, or the input its bytes
+abbrev pub MeetsTold : {X : Type 0} → Option X → (X → Ways) → Status → Option (List ℕ) → Option (List ℕ) → Type 0
+MeetsTold (Some told) of status old new = Meets (of told) status old new
 MeetsTold None of ReadFault old new = Keeps old new
 MeetsTold None of status old new = ⊤
 
--- the right outcomes of a command
-abbrev pub ways_of : Form → Files → Ways
-ways_of (LocalForm schema tables document vars workers cut) = LocalWays schema tables document vars
+-- what a command's status and output meet, by what it reads: files, or the input
+abbrev pub Ends : Option Files → Option (List ℕ) → Form → Status → Option (List ℕ) → Option (List ℕ) → Type 0
+Ends files input (LocalForm schema tables document vars workers cut) status old new = MeetsTold files (LocalWays schema tables document vars) status old new
+Ends files input (ReplayForm boundary) status old new = MeetsTold input (ReplayWays boundary) status old new
 
 -- nothing is written where the words have no form
-abbrev pub Answers : Option Files → Option Form → Status → Option (List ℕ) → Option (List ℕ) → Type 0
-Answers told None status old new = Keeps old new
-Answers told (Some form) status old new = MeetsTold told (ways_of form) status old new
+abbrev pub Answers : Option Files → Option (List ℕ) → Option Form → Status → Option (List ℕ) → Option (List ℕ) → Type 0
+Answers files input None status old new = Keeps old new
+Answers files input (Some form) status old new = Ends files input form status old new
 
--- the statuses that a command of this build ends with, whether the shelf tells or not
+-- the statuses that `local` ends with in this build, whether the shelf tells or not
 abbrev pub IsAnswer : Status → Type 0
 IsAnswer Usage = ⊥
 IsAnswer StreamRefused = ⊥
 IsAnswer DoorFault = ⊥
 IsAnswer InputsRefused = ⊥
 IsAnswer _ = ⊤
+
+-- which statuses a command ends with, whether anything tells or not
+abbrev pub IsEnd : Option Form → Status → Type 0
+IsEnd None status = status ≡ Usage
+IsEnd (Some (LocalForm schema tables document vars workers cut)) status = IsAnswer status
+IsEnd (Some (ReplayForm boundary)) status = IsReplayed status
+
+-- the command reads files, or the input
+abbrev pub ReadsFiles : Option Form → Type 0
+ReadsFiles (Some (LocalForm schema tables document vars workers cut)) = ⊤
+ReadsFiles _ = ⊥
+
+abbrev pub ReadsInput : Option Form → Type 0
+ReadsInput (Some (ReplayForm boundary)) = ⊤
+ReadsInput _ = ⊥
 
 -- those that end it at a file
 abbrev pub IsStop : Status → Type 0
@@ -86,10 +103,10 @@ abbrev pub HasFiles : Option Files → (schema tables document : List ℕ) → T
 HasFiles None schema tables document = ⊥
 HasFiles (Some files) schema tables document = HasFile files schema × HasFile files tables × HasFile files document
 
--- the words have a form, and its files are there
+-- the words are the command `local`, and its files are there
 abbrev pub Ready : Option Files → Option Form → Type 0
-Ready told None = ⊥
 Ready told (Some (LocalForm schema tables document vars workers cut)) = HasFiles told schema tables document
+Ready told _ = ⊥
 
 -- the file has these bytes, where the shelf tells
 abbrev pub Finds : Option Files → List ℕ → List ℕ → Type 0

@@ -4,11 +4,12 @@ use Rattle.std.specs.Char.{is_ascii_digit}
 use Rattle.std.specs.List.{list_all}
 use Rattle.std.specs.Str.Parse.{digits_value}
 use Rattle.gql_tool.specs.declared.words.Command.{Command}
-use Rattle.gql_tool.specs.declared.words.Command.TheVariants.{Local}
+use Rattle.gql_tool.specs.declared.words.Command.TheVariants.{Local, Replay}
 
 -- a command, by its words
 pub data Form : Type 0 where
   LocalForm : (schema tables document vars : List ℕ) (workers cut : ℕ) → Form
+  ReplayForm : (boundary : List ℕ) → Form
 
 -- a single byte, or more of which the first is no `0`
 abbrev pub has_no_leading_zero : List ℕ → Bool
@@ -30,12 +31,14 @@ local_form schema tables document vars workers cut =
     if is_number 0 0 workers && is_number 1 1048576 cut
     then Some (LocalForm schema tables document vars (digits_value 10 workers) (digits_value 10 cut)) else None
 
--- `local SCHEMA TABLES DOCUMENT VARS WORKERS CUT`, and nothing else
+-- `local SCHEMA TABLES DOCUMENT VARS WORKERS CUT` or `replay BOUNDARY`, and nothing else
 abbrev pub form_of : List (List ℕ) → Option Form
 form_of (command ∷ schema ∷ tables ∷ document ∷ vars ∷ workers ∷ cut ∷ []) =
     if bytes_eq command (codes "local") then local_form schema tables document vars workers cut else None
+form_of (command ∷ boundary ∷ []) = if bytes_eq command (codes "replay") then Some (ReplayForm boundary) else None
 form_of _ = None
 
 -- what a command's fields point to
 abbrev pub said : Command → Form
 said (Local schema tables document vars workers cut) = LocalForm schema.now tables.now document.now vars.now workers cut
+said (Replay boundary) = ReplayForm boundary.now

@@ -203,6 +203,7 @@ impl Client {
     pub fn finish(&mut self) -> Result<(), ClientRefusal>
         ensures taken { OnOk result ((h : Heard) → Stands self.old h → Stands self.new h × AcceptsEnd h.boundary h.bytes self.new.merger.state) }
         ensures refused { result ≡ Err answer.Refused → (h : Heard) → Stands self.old h → IsRefusedAtEnd self.new h.boundary h.bytes }
+        ensures merger { self.new.merger ≡ self.old.merger }
         ensures for_good { (stop : Stop) → self.old.stop ≡ Some stop → (result ≡ Err (answer_of stop)) × (self.new ≡ self.old) }
     {
         self.going()?;

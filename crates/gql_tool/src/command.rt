@@ -7,12 +7,13 @@ ghost use Rattle.gql_io.specs.Told.{Puts};
 ghost use Rattle.gql_tool.specs.Words.{form_of};
 ghost use Rattle.gql_tool.specs.Outcome.{names, file_limit};
 ghost use Rattle.gql_tool.specs.Local.{LocalWays};
-ghost use Rattle.gql_tool.specs.Meets.{Meets, MeetsTold, Answers, IsAnswer, IsStop, IsJudged, HasFiles, Ready, Finds, StopsAt, ended};
+ghost use Rattle.gql_tool.specs.Meets.{Meets, MeetsTold, Answers, IsAnswer, IsStop, IsJudged, IsEnd, ReadsFiles, ReadsInput, HasFiles, Ready, Finds, StopsAt, ended};
 
 use crate::Status;
+use crate::hearing::replay;
 use crate::request::answer;
 use crate::words::{Command, parse};
-use gql_io::{Failed, Shelf, ShelfRefusal, Sink};
+use gql_io::{Failed, Shelf, ShelfRefusal, Sink, Source};
 use gql_tree::{Bytes, Text};
 use std::alloc::Global;
 
@@ -137,20 +138,22 @@ pub fn local<S: Shelf, O: Sink>(
 
 /// All that the program does.
 #[tactic(auto, using(crate::proofs::Fronts::local_front))]
-pub fn tool<S: Shelf, O: Sink>(
+pub fn tool<S: Shelf, I: Source, O: Sink>(
     alloc: Global,
     words: &[Text],
     shelf: &mut S,
+    input: &mut I,
     output: &mut O,
 ) -> Status
-    // The causes of what stops it, whether the shelf tells or not.
+    // The causes of what stops it, whether shelf and input tell or not.
     ensures usage { (result ≡ Status.Usage) ↔ (form_of words.now ≡ None) }
-    ensures read_fault { Counts (S.faults shelf.old) (S.faults shelf.new) (result ≡ Status.ReadFault) }
+    ensures read_fault { Counts (S.faults shelf.old) (S.faults shelf.new) (ReadsFiles (form_of words.now) × (result ≡ Status.ReadFault)) }
+    ensures input_fault { Counts (I.faults input.old) (I.faults input.new) (ReadsInput (form_of words.now) × (result ≡ Status.ReadFault)) }
     ensures write_fault { Counts (O.faults output.old) (O.faults output.new) (result ≡ Status.WriteFault) }
-    ensures statuses { (result ≡ Status.Usage) ⊎ IsAnswer result }
+    ensures statuses { IsEnd (form_of words.now) result }
 
-    // The status and what is written, where it tells.
-    ensures answers { Answers (S.files shelf.old) (form_of words.now) result (O.sent output.old) (O.sent output.new) }
+    // The status and what is written, where the one that is read tells.
+    ensures answers { Answers (S.files shelf.old) (I.left input.old) (form_of words.now) result (O.sent output.old) (O.sent output.new) }
     ensures complete { Ready (S.files shelf.old) (form_of words.now)
         → ¬ Rose (S.faults shelf.old) (S.faults shelf.new) → ¬ Rose (O.faults output.old) (O.faults output.new)
         → IsJudged result }
@@ -168,5 +171,6 @@ pub fn tool<S: Shelf, O: Sink>(
                 ..
             },
         ) => local(alloc, schema, tables, document, vars, shelf, output),
+        Some(Command::Replay { boundary }) => replay(alloc, boundary, input, output),
     }
 }

@@ -2,7 +2,7 @@
 
 use crate::request::SCHEMA;
 use crate::{Status, tool};
-use gql_io::{MemoryShelf, MemorySink, ShelfFile, SinkFault};
+use gql_io::{MemoryShelf, MemorySink, MemorySource, ShelfFile, SinkFault};
 use gql_tree::{Bytes, NoMemory, Text};
 use std::alloc::Global;
 use std::test::Fail;
@@ -36,6 +36,11 @@ fn files(
     Ok(files)
 }
 
+/// An input with nothing in it.
+fn no_input(alloc: Global) -> MemorySource {
+    MemorySource::new(Vec::new(alloc), 0, Vec::new(alloc))
+}
+
 /// The words of a line with one space between two; an empty line has none.
 fn words(alloc: Global, line: &str) -> Result<Vec<Text>, NoMemory> {
     let mut words = Vec::new(alloc);
@@ -58,6 +63,8 @@ fn how_each_command_line_ends(rt: HostRuntime) -> Result<(), Fail> {
         ("local", 9, 9, 2, b""),
         ("remote s t d - 0 7", 9, 9, 2, b""),
         ("local s t d - 0 7 8", 9, 9, 2, b""),
+        ("replay", 9, 9, 2, b""),
+        ("replay - -", 9, 9, 2, b""),
         ("local s t d - 0 0", 9, 9, 2, b""),
         ("local s t d - 0 07", 9, 9, 2, b""),
         ("local s t d - 0 1048577", 9, 9, 2, b""),
@@ -80,9 +87,10 @@ fn how_each_command_line_ends(rt: HostRuntime) -> Result<(), Fail> {
         ]?;
         let files = files(alloc, b"type Query { hero: Int }\n", b"{}", b"{ hero }")?;
         let mut shelf = MemoryShelf::new(files, vec![in alloc; read_fails]?);
+        let mut input = no_input(alloc);
         let mut output = MemorySink::new(alloc, failing);
         let words = words(alloc, line)?;
-        let end = tool(alloc, words.as_slice(), &mut shelf, &mut output);
+        let end = tool(alloc, words.as_slice(), &mut shelf, &mut input, &mut output);
         assert_eq!(rt; end.number(), status, "status of {line}");
         assert_eq!(rt; output.sent(), written, "output of {line}");
     }
@@ -97,12 +105,13 @@ fn answered(
     fault: SinkFault,
 ) -> Result<(Status, MemorySink), NoMemory> {
     let mut shelf = MemoryShelf::new(files(alloc, SCHEMA, TABLES, document)?, Vec::new(alloc));
+    let mut input = no_input(alloc);
     let mut output = MemorySink::new(alloc, vec![in alloc; fault]?);
     let mut words = words(alloc, "local s t d")?;
     for word in [vars, "0", "7"] {
         words.push(Text::copy_of(alloc, word)?)?;
     }
-    let end = tool(alloc, words.as_slice(), &mut shelf, &mut output);
+    let end = tool(alloc, words.as_slice(), &mut shelf, &mut input, &mut output);
     Ok((end, output))
 }
 
@@ -148,5 +157,125 @@ fn what_stops_an_answer(rt: HostRuntime) -> Result<(), Fail> {
     let (end, output) = answered(alloc, LATE_NAME, "v", SinkFault { call: 9, taken: 0 })?;
     assert_eq!(rt; end.number(), 1);
     assert_eq!(rt; output.sent(), NOT_BUILT);
+    Ok(())
+}
+
+/// What `replay` makes of an input, of which each call gives `step` bytes and this one fails.
+fn replayed(
+    alloc: Global,
+    boundary: &str,
+    bytes: &[u8],
+    step: usize,
+    fails: u64,
+) -> Result<(Status, MemorySink), NoMemory> {
+    let mut shelf = MemoryShelf::new(Vec::new(alloc), Vec::new(alloc));
+    let mut held = Vec::new(alloc);
+    held.extend_from_slice(bytes)?;
+    let mut input = MemorySource::new(held, step, vec![in alloc; fails]?);
+    let mut output = MemorySink::new(alloc, Vec::new(alloc));
+    let mut words = Vec::new(alloc);
+    for word in ["replay", boundary] {
+        words.push(Text::copy_of(alloc, word)?)?;
+    }
+    let end = tool(alloc, words.as_slice(), &mut shelf, &mut input, &mut output);
+    Ok((end, output))
+}
+
+const FIRST_LINE: &[u8] =
+    b"merged {\"data\":{\"hero\":{\"id\":\"1\"}},\"errors\":[],\"failures\":[]}\n";
+
+const LAST_LINE: &[u8] =
+    b"merged {\"data\":{\"hero\":{\"id\":\"1\",\"name\":\"Luke\"}},\"errors\":[],\"failures\":[]}\n";
+
+#[test]
+fn what_each_front_replays(rt: HostRuntime) -> Result<(), Fail> {
+    let alloc = rt.alloc();
+    for (length, status, refused, merged) in [
+        (
+            0,
+            6,
+            b"refused end: Truncated\n".as_slice(),
+            b"merged none\n".as_slice(),
+        ),
+        (153, 6, b"refused end: Truncated\n", FIRST_LINE),
+        (302, 6, b"refused end: Truncated\n", LAST_LINE),
+        (303, 0, b"", LAST_LINE),
+        (304, 0, b"", LAST_LINE),
+        (305, 0, b"", LAST_LINE),
+    ] {
+        for step in [1, 7, 4096] {
+            let (end, output) = replayed(alloc, "-", &LATE_NAME_BODY[..length], step, 999)?;
+            assert_eq!(rt; end.number(), status, "{length}");
+            assert!(rt; output.sent().starts_with(refused), "{length}");
+            assert!(rt; output.sent().ends_with(merged), "{length}");
+            assert_eq!(rt;
+                output.sent().len(),
+                refused.len() + merged.len(),
+                "{length}"
+            );
+        }
+    }
+    Ok(())
+}
+
+#[test]
+fn what_stops_a_replay(rt: HostRuntime) -> Result<(), Fail> {
+    let alloc = rt.alloc();
+    for (boundary, bytes, fails, status, written) in [
+        (
+            "",
+            b"".as_slice(),
+            999,
+            6,
+            b"refused byte 0: BadBoundary\nmerged none\n".as_slice(),
+        ),
+        (
+            "-",
+            b"-----",
+            999,
+            6,
+            b"refused byte 4: BadDelimiter\nmerged none\n",
+        ),
+        (
+            "-",
+            b"---\n",
+            999,
+            6,
+            b"refused byte 4: BadDelimiter\nmerged none\n",
+        ),
+        (
+            "-",
+            b"---\r\nContent\r\n",
+            999,
+            6,
+            b"refused byte 13: BadHeader\nmerged none\n",
+        ),
+        (
+            "-",
+            b"---\r\n\r\n{\"data\":{}}\r\n-----",
+            999,
+            0,
+            b"merged {\"data\":{},\"errors\":[],\"failures\":[]}\n",
+        ),
+        (
+            "-",
+            b"---\r\n\r\n{\r\n---",
+            999,
+            6,
+            b"refused payload 0: NotJson\nmerged none\n",
+        ),
+        (
+            "-",
+            b"x\r\n---\r\n\r\n{\"pending\":[{\"path\":[\"hero\"],\"id\":\"7\"}],\"hasNext\":true,\"data\":{\"hero\":{}},\"extensions\":{}}\r\n---\r\n\r\n{\"hasNext\":true,\"incremental\":[{\"id\":\"7\",\"data\":{\"age\":20}}],\"completed\":[{\"id\":\"7\"}]}\r\n---\r\n\r\n{\"hasNext\":false}\r\n-----\r\n",
+            999,
+            0,
+            b"merged {\"data\":{\"hero\":{\"age\":20}},\"errors\":[],\"failures\":[]}\n",
+        ),
+        ("-", b"---\r\n\r\n{\"data\":{}}\r\n-----", 1, 3, b""),
+    ] {
+        let (end, output) = replayed(alloc, boundary, bytes, 9, fails)?;
+        assert_eq!(rt; end.number(), status);
+        assert_eq!(rt; output.sent(), written);
+    }
     Ok(())
 }

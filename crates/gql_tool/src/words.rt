@@ -17,6 +17,9 @@ pub enum Command<'a> {
         workers: u64,
         cut: u64,
     },
+    Replay {
+        boundary: &'a str,
+    },
 }
 
 /// A single byte, or more of which the first is no `0`.
@@ -97,6 +100,9 @@ pub fn parse<'a>(words: &'a [Text]) -> Option<Command<'a>>
                 cut.as_str(),
             )
         }
+        [command, boundary] if command.as_str() == "replay" => Some(Command::Replay {
+            boundary: boundary.as_str(),
+        }),
         _ => None,
     }
 }

@@ -1,0 +1,74 @@
+-- What the command `replay` makes of its input.
+use Rattle.std.specs.Prelude.{◌≡◌, ◌≢◌, ◌⊎◌, ℕ, ◌≤◌, List, [], ◌∷◌, ◌++◌, length, Option, None, Some, codes, ⊤}
+use Rattle.gql_multipart.specs.declared.reader.FrameKind.TheVariants.{BadBoundary}
+use Rattle.gql_multipart.specs.Body.{IsBoundary}
+use Rattle.gql_merge.specs.declared.state.State.{State}
+use Rattle.gql_merge.specs.Apply.{fresh}
+use Rattle.gql_merge.specs.Report.{report_of}
+use Rattle.gql_tool.specs.declared.status.Status.{Status}
+use Rattle.gql_tool.specs.declared.status.Status.TheVariants.{Done, ReadFault, WriteFault, NoMemory, StreamRefused, TooLong}
+use Rattle.gql_tool.specs.Client.{at_byte, Accepts, Refuses, AcceptsEnd, RefusesEnd}
+use Rattle.gql_tool.specs.Outcome.{Outcome, Ways}
+
+-- the most bytes of a body that are heard
+abbrev pub budget : ℕ
+budget = 1073741824
+
+-- ---- what is written
+
+abbrev pub merged_line : State → List ℕ
+merged_line t = codes "merged " ++ (report_of t ++ 10 ∷ [])
+
+abbrev pub refused_lines : List ℕ → State → List ℕ
+refused_lines why t = codes "refused " ++ (why ++ 10 ∷ merged_line t)
+
+abbrev pub merged : State → Outcome
+merged t = record { status = Done; bytes = merged_line t }
+
+abbrev pub refused_for : List ℕ → State → Outcome
+refused_for why t = record { status = StreamRefused; bytes = refused_lines why t }
+
+abbrev pub body_too_long : Outcome
+body_too_long = record { status = TooLong; bytes = codes "too long: body\n" }
+
+-- ---- the ways to end
+
+-- the input is a body, and its last payload says that no more comes
+abbrev pub IsWhole : List ℕ → List ℕ → Ways
+IsWhole boundary input o = (t : State) × (length input ≤ budget) × Accepts boundary input t × AcceptsEnd boundary input t × (o ≡ merged t)
+
+-- the end of the input is refused
+abbrev pub IsEndRefused : List ℕ → List ℕ → Ways
+IsEndRefused boundary input o = (t : State) × (why : List ℕ) × (length input ≤ budget) × Accepts boundary input t × RefusesEnd boundary input t why × (o ≡ refused_for why t)
+
+-- a front of the input is refused, and what comes behind isn't heard
+abbrev pub IsFrontRefused : List ℕ → List ℕ → Ways
+IsFrontRefused boundary input o = (t : State) × (why front back : List ℕ) × (input ≡ front ++ back) × (length front ≤ budget) × Refuses boundary front t why × (o ≡ refused_for why t)
+
+-- nothing is refused in as many bytes as are heard, and more come
+abbrev pub IsPastBudget : List ℕ → List ℕ → Ways
+IsPastBudget boundary input o = (t : State) × (front back : List ℕ) × (input ≡ front ++ back) × (length front ≡ budget) × (back ≢ []) × Accepts boundary front t × (o ≡ body_too_long)
+
+abbrev pub HeardWays : List ℕ → List ℕ → Ways
+HeardWays boundary input o = IsWhole boundary input o ⊎ (IsEndRefused boundary input o ⊎ (IsFrontRefused boundary input o ⊎ IsPastBudget boundary input o))
+
+-- the boundary is refused, or the input is heard
+abbrev pub ReplayWays : List ℕ → List ℕ → Ways
+ReplayWays boundary input o =
+    ((IsBoundary boundary → ⊥) × (o ≡ refused_for (at_byte 0 BadBoundary) fresh))
+    ⊎ (IsBoundary boundary × HeardWays boundary input o)
+
+-- what is written of a client: why it refused, if it did, and what it merged
+abbrev pub lines_of : Option (List ℕ) → State → List ℕ
+lines_of None t = merged_line t
+lines_of (Some why) t = refused_lines why t
+
+-- the statuses that the command ends with
+abbrev pub IsReplayed : Status → Type 0
+IsReplayed Done = ⊤
+IsReplayed ReadFault = ⊤
+IsReplayed WriteFault = ⊤
+IsReplayed NoMemory = ⊤
+IsReplayed StreamRefused = ⊤
+IsReplayed TooLong = ⊤
+IsReplayed _ = ⊥
