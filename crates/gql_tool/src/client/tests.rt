@@ -104,52 +104,65 @@ fn second_payloads(rt: HostRuntime) -> Result<(), Fail> {
     Ok(())
 }
 
+const NULL: &str = "{\"data\":null,\"hasNext\":true,\"pending\":[{\"id\":\"0\",\"path\":[]}]}";
+
 #[test]
 fn bodies_of_other_payloads(rt: HostRuntime) -> Result<(), Fail> {
     let alloc = rt.alloc();
-    let null = "{\"data\":null,\"hasNext\":true,\"pending\":[{\"id\":\"0\",\"path\":[]}]}";
-    for (texts, want) in [
+    // As many of three texts, a reason and a report.
+    for (first, second, third, count, reason, report) in [
         (
-            [ANNOUNCED, DELIVERED, DELIVERED].as_slice(),
-            format!(in alloc; "payload 2: AfterEnd|{WHOLE}")?,
+            ANNOUNCED,
+            DELIVERED,
+            DELIVERED,
+            3,
+            "payload 2: AfterEnd",
+            WHOLE,
         ),
         (
-            [
-                ANNOUNCED,
-                "{\"completed\":[{\"id\":\"0\"}],\"hasNext\":true}",
-                DELIVERED,
-            ]
-            .as_slice(),
-            format!(in alloc; "payload 2: UnknownId|{FIRST}")?,
+            ANNOUNCED,
+            "{\"completed\":[{\"id\":\"0\"}],\"hasNext\":true}",
+            DELIVERED,
+            3,
+            "payload 2: UnknownId",
+            FIRST,
         ),
         (
-            ["{\"hasNext\":true}"].as_slice(),
-            format!(in alloc; "payload 0: BadInitial|none")?,
+            "{\"hasNext\":true}",
+            "",
+            "",
+            1,
+            "payload 0: BadInitial",
+            "none",
         ),
         (
-            [
-                "{\"data\":{},\"hasNext\":true,\"pending\":[{\"id\":\"0\",\"path\":[]},{\"id\":\"0\",\"path\":[]}]}",
-            ].as_slice(),
-            format!(in alloc; "payload 0: IdTwice|none")?,
+            "{\"data\":{},\"hasNext\":true,\"pending\":[{\"id\":\"0\",\"path\":[]},{\"id\":\"0\",\"path\":[]}]}",
+            "",
+            "",
+            1,
+            "payload 0: IdTwice",
+            "none",
         ),
         (
-            [
-                null,
-                "{\"hasNext\":true,\"incremental\":[{\"data\":{},\"id\":\"0\"}]}",
-            ]
-            .as_slice(),
-            format!(in alloc;
-                "payload 1: NoSuchPlace|{{\"data\":null,\"errors\":[],\"failures\":[]}}"
-            )?,
+            NULL,
+            "{\"hasNext\":true,\"incremental\":[{\"data\":{},\"id\":\"0\"}]}",
+            "",
+            2,
+            "payload 1: NoSuchPlace",
+            "{\"data\":null,\"errors\":[],\"failures\":[]}",
         ),
         (
-            ["{\"errors\":[{\"message\":\"x\"}]}"].as_slice(),
-            format!(in alloc;
-                "taken|{{\"data\":null,\"errors\":[{{\"message\":\"x\"}}],\"failures\":[]}}"
-            )?,
+            "{\"errors\":[{\"message\":\"x\"}]}",
+            "",
+            "",
+            1,
+            "taken",
+            "{\"data\":null,\"errors\":[{\"message\":\"x\"}],\"failures\":[]}",
         ),
     ] {
-        let bytes = body(alloc, texts)?;
+        let texts = [first, second, third];
+        let bytes = body(alloc, &texts[..count])?;
+        let want = format!(in alloc; "{reason}|{report}")?;
         assert_eq!(rt;
             told(alloc, bytes.as_slice(), 1_048_576)?.as_str(),
             want.as_str()
