@@ -38,7 +38,7 @@ holds_none text n apart (x ∷ y ∷ front) back e = let tails : text ≡ front 
     no_cr_inside (b ∷ text) (z ∷ front) back n e = let tails : text ≡ front ++ (13 ∷ back) = cc in no_cr_inside text front back n.1 tails
 
 -- a test that computes
-each_test : (test : ℕ → Bool) (xs : List ℕ) → list_all test xs ≡ true → Each (λ b. IsTrue (test b)) xs
+pub each_test : (test : ℕ → Bool) (xs : List ℕ) → list_all test xs ≡ true → Each (λ b. IsTrue (test b)) xs
 each_test test [] e = tt
 each_test test (x ∷ xs) e = let h = both (test x) (list_all test xs) e in (h.0, each_test test xs h.1)
 
@@ -62,7 +62,7 @@ pieces_are : (ts : List (List ℕ)) (rest : List ℕ) → Each IsFramable ts →
 pieces_are [] rest each = refl
 pieces_are (t ∷ ts) rest each = (piece t, flat_map piece ts ++ rest, piece_is t each.0, pieces_are ts rest each.1, append_assoc (piece t) (flat_map piece ts) rest)
 
-pieces_end : (ts : List (List ℕ)) → pieces ts ≡ flat_map piece ts ++ (dashes ++ crlf)
+pub pieces_end : (ts : List (List ℕ)) → pieces ts ≡ flat_map piece ts ++ (dashes ++ crlf)
 pieces_end [] = refl
 pieces_end (t ∷ ts) = ap (λ z. piece t ++ z) (pieces_end ts) ∙ sym (append_assoc (piece t) (flat_map piece ts) (dashes ++ crlf))
 

@@ -17,5 +17,7 @@ pub mod Answering
 pub mod Standing
 pub mod Unique
 pub mod Frames
+pub mod Lines
+pub mod Fronts
 pub mod RegionKinds
 pub mod Sayings

@@ -1,5 +1,5 @@
 -- The piece of one text in a multipart body, and the pieces of a whole body.
-use Rattle.std.specs.Prelude.{ℕ, List, [], ◌∷◌, ◌++◌, flat_map, Bool, true, false, codes, ◌≡◌, ◌≢◌, ◌≤◌, All, length}
+use Rattle.std.specs.Prelude.{ℕ, List, [], ◌∷◌, ◌++◌, flat_map, Bool, true, false, codes, ◌≡◌, ◌≢◌, ◌<◌, ◌≤◌, All, length}
 use Rattle.gql_tree.specs.Frame.{mark, piece, crlf}
 
 -- what stands before the first piece
@@ -39,3 +39,17 @@ pub record IsFramable (text : List ℕ) : Type 0 where
   pub one_line : All (λ b. b ≢ 13) text
   pub unmarked : (rest : List ℕ) → text ≡ mark ++ rest → ⊥
   pub most : length text ≤ 67108864
+
+-- a text that is one line and doesn't begin with a mark, however long it is
+pub record IsLine (text : List ℕ) : Type 0 where
+  pub one_line : All (λ b. b ≢ 13) text
+  pub unmarked : (rest : List ℕ) → text ≡ mark ++ rest → ⊥
+
+-- such a text that is too long to be framed
+pub record IsLongLine (text : List ℕ) : Type 0 where
+  pub line : IsLine text
+  pub more : 67108864 < length text
+
+-- these are the first of the texts, in their order
+abbrev pub AreFirst : List (List ℕ) → List (List ℕ) → Type 0
+AreFirst contents texts = (more : List (List ℕ)) × (contents ++ more ≡ texts)

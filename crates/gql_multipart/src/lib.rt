@@ -25,7 +25,8 @@ mod reader;
 mod tests;
 
 pub use laws::{
-    a_past_has_one_answer, bodies_are_read_in_one_way, frames_are_read_back, pieces_make_a_body,
+    a_past_has_one_answer, bodies_are_read_in_one_way, frames_are_read_back,
+    frames_of_long_lines_are_shut, fronts_of_frames_are_open, pieces_make_a_body,
 };
 pub use part::frame;
 pub use reader::{FrameKind, FrameRefusal, Reader, Step};
