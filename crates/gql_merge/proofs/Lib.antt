@@ -6,3 +6,15 @@ pub mod Shorter
 pub mod Placed
 pub mod Made
 pub mod Applied
+pub mod Ordered
+pub mod Exact
+pub mod Received
+pub mod Taken
+pub mod Deliveries
+pub mod PartMarks
+pub mod Served
+pub mod Merging
+pub mod Alone
+pub mod Waiting
+pub mod Lone
+pub mod Responses

@@ -37,3 +37,13 @@ module _ {S R : Type 0} (a b : S → Result S R → Type 0) where
   pub then_next : (s m : S) (r : Result S R) → a s (Ok m) → b m r → Then a b s r
   then_next s m (Ok t) h k = (m, h, k)
   then_next s m (Err e) h k = inr (m, h, k)
+
+  -- the first step isn't refused, and leads to a state of which this holds
+  pub then_led : (s : S) (P : S → Type 0) (G : Type 0) (r : Result S R) → ((m : S) → a s (Ok m) → P m) → ((e : R) → a s (Err e) → ⊥) → ((m : S) → P m → b m r → G) → Then a b s r → G
+  then_led s P G (Ok t) leads never next h = next h.0 (leads h.0 h.1) h.2
+  then_led s P G (Err e) leads never next (inl h) = absurd (never e h)
+  then_led s P G (Err e) leads never next (inr h) = next h.0 (leads h.0 h.1) h.2
+
+  -- the first step leads to this state alone
+  pub then_sure : (s m : S) (r : Result S R) → ((q : Result S R) → a s q → q ≡ Ok m) → Then a b s r → b m r
+  then_sure s m r sure h = then_led s (λ k. k ≡ m) (b m r) r (λ k g. let e = sure (Ok k) g in cc) (λ e g. let f = sure (Err e) g in absurd (cc)) (λ k e g. subst (λ (x : S). b x r) e g) h

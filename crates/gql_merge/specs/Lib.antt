@@ -3,3 +3,5 @@ pub mod Order
 pub mod Apply
 pub mod Runs
 pub mod Report
+pub mod Lone
+pub mod Merging

@@ -18,7 +18,7 @@ mod state;
 #[cfg(test)]
 mod tests;
 
-pub use laws::{apply_all, runs_from_the_start};
+pub use laws::{apply_all, first_payloads_are_merged, runs_from_the_start};
 pub use merger::Merger;
 pub use order::{compare_failures, compare_faults};
 pub use refusal::MergeRefusal;
