@@ -1,3 +1,4 @@
+pub mod formers
 pub mod Lists
 pub mod Shape
 pub mod World
@@ -9,6 +10,7 @@ pub mod Complete
 pub mod Objects
 pub mod Region
 pub mod Operations
+pub mod Plain
 pub mod Depth
 pub mod Sample
 pub mod Worked

@@ -13,10 +13,15 @@ use Rattle.gql_tree.specs.PayloadText.{payload_text}
 use Rattle.gql_model.specs.declared.operation.Node.{Node}
 use Rattle.gql_model.specs.Region.{initial_region, task_region}
 use Rattle.gql_model.specs.Operations.{forest}
+use Rattle.gql_model.specs.Plain.{plain as plain_region}
 use Rattle.gql_model.specs.Sample.{service, query}
 
 abbrev pub initial : List Node → RegionResult
 initial nodes = initial_region service nodes query
+
+-- the response of plain execution
+abbrev pub plain : List Node → RegionResult
+plain nodes = plain_region service nodes query
 
 -- the regions of the tasks that the initial region makes, in order
 abbrev pub next_regions : List Node → List RegionResult
@@ -42,6 +47,10 @@ one name value = v.Object (record { name = name; value = value } ∷ [])
 
 abbrev pub fault : List ℕ → ℕ → List Key → Fault
 fault message column path = record { message = message; line = 1; column = column; path = Some (record { keys = path }) }
+
+-- an object of two members
+abbrev pub two : List ℕ → Value → List ℕ → Value → Value
+two first x second y = v.Object (record { name = first; value = x } ∷ record { name = second; value = y } ∷ [])
 
 -- the owners' places of each group, with the response keys of its fields
 abbrev pub grouped : RegionResult → List (List ℕ × List (List ℕ))

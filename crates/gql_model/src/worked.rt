@@ -4,7 +4,8 @@ ghost use Rattle.gql_tree.specs.declared.Value.TheVariants as v;
 ghost use Rattle.gql_tree.specs.declared.Outcome.TheVariants.{Good, Failed};
 ghost use Rattle.gql_tree.specs.Frame.{frame};
 ghost use Rattle.gql_model.specs.Sample.{plain as plain_nodes, one_deferred, bubbling, null_item, shared, stream, type_names, failing};
-ghost use Rattle.gql_model.specs.Worked.{initial, outcomes, faults, texts, one, fault, grouped, labelled, counted};
+ghost use Rattle.gql_model.specs.Plain.{kept};
+ghost use Rattle.gql_model.specs.Worked.{initial, plain, outcomes, faults, texts, one, two, fault, grouped, labelled, counted};
 
 /// The regions that worked operations have by the definitions.
 pub fn worked_regions()
@@ -43,6 +44,29 @@ pub fn worked_regions()
     // { hero { __typename } }
     ensures type_name { (initial type_names).outcome
         ≡ Good (one (codes "hero") (one (codes "__typename") (v.Text (codes "Person")))) }
+{}
+
+/// The responses that worked operations have where no directive waits.
+pub fn worked_plain()
+    // { hero { id ... @defer(label:"D") { name } } }
+    ensures deferred { (plain one_deferred).outcome
+        ≡ Good (one (codes "hero") (two (codes "id") (v.Text (codes "1")) (codes "name") (v.Text (codes "Luke")))) }
+    ensures deferred_groups { grouped (plain one_deferred) ≡ [] }
+    ensures deferred_fragments { labelled (plain one_deferred) ≡ [] }
+
+    // { hero { id ... @defer(label:"D") { boom } } }: the null of the piece goes up to the hero
+    ensures failing { (plain failing).outcome ≡ Good (one (codes "hero") v.Null) }
+    ensures failing_faults { (plain failing).faults
+        ≡ fault (codes "bang") 37 (Name (codes "hero") ∷ Name (codes "boom") ∷ []) ∷ [] }
+
+    // { crew @stream(initialCount:1) { name } }: the null of the third item goes up to the list
+    ensures streamed { (plain stream).outcome ≡ Good (one (codes "crew") v.Null) }
+    ensures streams { counted (plain stream) ≡ [] }
+
+    // an error at `hero` stands in {"hero":null}, one below it doesn't
+    ensures kept { kept (one (codes "hero") v.Null)
+        (fault (codes "bang") 37 (Name (codes "hero") ∷ Name (codes "boom") ∷ []) ∷ fault (codes "gone") 3 (Name (codes "hero") ∷ []) ∷ [])
+        ≡ fault (codes "gone") 3 (Name (codes "hero") ∷ []) ∷ [] }
 {}
 
 /// The texts of the payloads that worked operations have by the definitions.
