@@ -1,0 +1,56 @@
+//! Strings whose values are known, by hand.
+
+use crate::string_value;
+use gql_lex::Lexer;
+use gql_tree::Text;
+use std::alloc::Global;
+use std::test::Fail;
+
+/// What the first token of a text means.
+fn value_of(alloc: Global, text: &str) -> Result<Text, Fail> {
+    if text.len() >= 4_294_967_295 {
+        return Err(Fail::new("too long"));
+    }
+    match Lexer::new(text).next() {
+        Ok(Some(token)) => Ok(string_value(alloc, &token)?),
+        _ => Err(Fail::new("no token")),
+    }
+}
+
+#[test]
+fn quoted_strings(rt: HostRuntime) -> Result<(), Fail> {
+    let table = [
+        ("\"\"", ""),
+        ("\"a b\"", "a b"),
+        ("\"\u{e9}\u{1f600}\t\"", "\u{e9}\u{1f600}\t"),
+        ("\"\\\"\\\\\\/\\b\\f\\n\\r\\t\"", "\"\\/\u{8}\u{c}\n\r\t"),
+        ("\"\\u00e9x\\u00E9\"", "\u{e9}x\u{e9}"),
+        ("\"a\\uD83D\\uDE00b\"", "a\u{1f600}b"),
+        ("\"\\\\u0041\\u0000\\uFFFF\"", "\\u0041\u{0}\u{ffff}"),
+    ];
+    for (text, want) in table {
+        let got = value_of(rt.alloc(), text)?;
+        assert_eq!(rt; got.as_str(), want, "{text}");
+    }
+    Ok(())
+}
+
+#[test]
+fn block_strings(rt: HostRuntime) -> Result<(), Fail> {
+    let table = [
+        ("\"\"\"\"\"\"", ""),
+        ("\"\"\"a\"\"\"", "a"),
+        ("\"\"\"\n  a\n    b\n\"\"\"", "a\n  b"),
+        ("\"\"\"  a\n    b\n   c\"\"\"", "  a\n b\nc"),
+        ("\"\"\"\r\n\t\r  x\r\n \r\n  y\n\n \"\"\"", "x\n\ny"),
+        ("\"\"\" \\\"\"\" \\n \\u0041\"\"\"", " \"\"\" \\n \\u0041"),
+        ("\"\"\"\n\ta\n  b\"\"\"", "a\n b"),
+        ("\"\"\"\n\n \t\n\"\"\"", ""),
+        ("\"\"\"a\n \n  \u{e9}  \n\"\"\"", "a\n\n\u{e9}  "),
+    ];
+    for (text, want) in table {
+        let got = value_of(rt.alloc(), text)?;
+        assert_eq!(rt; got.as_str(), want, "{text}");
+    }
+    Ok(())
+}
