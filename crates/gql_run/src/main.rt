@@ -1,10 +1,10 @@
 //! The program: it takes the words of its command line, calls `tool` over the files of the system,
-//! standard input and standard output, and ends with the number of the status. It writes nothing to
-//! standard error.
+//! standard input, standard output and a new client, and ends with the number of the status. It writes
+//! nothing to standard error.
 #![tactic(auto)]
 
 use gql_io::{FileShelf, StdSink, StdSource};
-use gql_tool::{Status, tool};
+use gql_tool::{Client, Status, tool};
 use gql_tree::Text;
 use std::alloc::Global;
 use std::env;
@@ -35,22 +35,29 @@ fn read_words(rt: &HostRuntime, alloc: Global) -> Words {
     Words::Read(words)
 }
 
+/// Runs the program on its words.
+fn run(rt: &HostRuntime, words: &[Text]) -> Status {
+    let Ok(mut client) = Client::new(rt.alloc(), "-") else {
+        return Status::NoMemory;
+    };
+    let mut shelf = FileShelf::new(rt);
+    let mut input = StdSource::new(rt.stdin());
+    let mut output = StdSink::new(rt.stdout());
+    tool(
+        rt.alloc(),
+        words,
+        &mut shelf,
+        &mut input,
+        &mut output,
+        &mut client,
+    )
+}
+
 fn main(rt: HostRuntime) -> ExitCode {
     let status = match read_words(&rt, rt.alloc()) {
         Words::NotText => Status::Usage,
         Words::NoMemory => Status::NoMemory,
-        Words::Read(words) => {
-            let mut shelf = FileShelf::new(&rt);
-            let mut input = StdSource::new(rt.stdin());
-            let mut output = StdSink::new(rt.stdout());
-            tool(
-                rt.alloc(),
-                words.as_slice(),
-                &mut shelf,
-                &mut input,
-                &mut output,
-            )
-        }
+        Words::Read(words) => run(&rt, words.as_slice()),
     };
     ExitCode::from(status.number())
 }

@@ -203,11 +203,14 @@ Refuses-framed c new h contents r (At kind byte) why took is answer by merger =
 Refuses-framed c new h contents r OutOfMemory why took is answer by merger = absurd by
 
 -- an error that was handed on
-pub handed_on : (S T : Type 0) (r : Result S Stop) (e : Stop) (s : Result T Stop) (stop : Stop) → r ≡ Err e → IsErrAnd s (λ x. x ≡ e) → s ≡ Err stop → r ≡ Err stop
-handed_on S T r e (Ok x) stop is err same = absurd err
-handed_on S T r e (Err f) stop is err same =
+pub handed_by : {E : Type 0} (S T : Type 0) (r : Result S E) (e : E) (s : Result T E) (stop : E) → r ≡ Err e → IsErrAnd s (λ x. x ≡ e) → s ≡ Err stop → r ≡ Err stop
+handed_by S T r e (Ok x) stop is err same = absurd err
+handed_by {E} S T r e (Err f) stop is err same =
     let last : f ≡ stop = cc in
-    is ∙ ap (λ (x : Stop). (let y : Result S Stop = Err x in y)) (sym err ∙ last)
+    is ∙ ap (λ (x : E). (let y : Result S E = Err x in y)) (sym err ∙ last)
+
+pub handed_on : (S T : Type 0) (r : Result S Stop) (e : Stop) (s : Result T Stop) (stop : Stop) → r ≡ Err e → IsErrAnd s (λ x. x ≡ e) → s ≡ Err stop → r ≡ Err stop
+handed_on S T r e s stop = handed_by S T r e s stop
 
 -- an answer by its step
 pub said_step : (r : Result Step FrameRefusal) (step now : Step) → r ≡ Ok step → step ≡ now → said r ≡ said (Ok now)

@@ -9,6 +9,8 @@ use Rattle.gql_io.specs.declared.shelf.ShelfRefusal.TheVariants.{Missing, TooLon
 use Rattle.gql_io.proofs.Told.{Prefix-kept}
 use Rattle.gql_tool.specs.declared.status.Status.{Status}
 use Rattle.gql_tool.specs.declared.status.Status.TheVariants.{ReadFault, WriteFault, NoMemory, NoFile, TooLong}
+use Rattle.gql_tool.specs.declared.document.HeroDocument.{HeroDocument}
+use Rattle.gql_tool.specs.declared.tables.HeroTables.{HeroTables}
 use Rattle.gql_tool.specs.Outcome.{Outcome, Ways, AfterFile, names, file_limit}
 use Rattle.gql_tool.specs.Local.{built, Answered}
 use Rattle.gql_tool.specs.Meets.{Meets, MeetsTold, Finds, FileStops, StopsAt, ended}
@@ -111,3 +113,7 @@ same_request vars s t d schema tables document status a b is_schema is_tables is
     subst (λ (x : List ℕ). Meets (Answered (built vars schema tables x)) status a b) is_document
     (subst (λ (x : List ℕ). Meets (Answered (built vars schema x d)) status a b) is_tables
     (subst (λ (x : List ℕ). Meets (Answered (built vars x t d)) status a b) is_schema meets))
+
+-- a request by what it is
+pub meets_of : (request is : Option (HeroTables × HeroDocument)) (status : Status) (a b : Option (List ℕ)) → request ≡ is → Meets (Answered request) status a b → Meets (Answered is) status a b
+meets_of request is status a b same meets = subst (λ (o : Option (HeroTables × HeroDocument)). Meets (Answered o) status a b) same meets

@@ -20,7 +20,7 @@ use Rattle.gql_tool.specs.Operation.{name_of}
 use Rattle.gql_tool.specs.Hero.{leaf_member}
 use Rattle.gql_tool.proofs.HeroFields.{leaf_pairs, KeysApart, Other}
 
-names-differ : (a b : LeafName) → same_name a b ≡ false → (bytes_eq (name_of b) (name_of a) ≡ false) × (bytes_eq (name_of a) (name_of b) ≡ false)
+pub names-differ : (a b : LeafName) → same_name a b ≡ false → (bytes_eq (name_of b) (name_of a) ≡ false) × (bytes_eq (name_of a) (name_of b) ≡ false)
 names-differ Id Id h = absurd (cc)
 names-differ Id Name h = (refl, refl)
 names-differ Id Age h = (refl, refl)
@@ -38,22 +38,22 @@ names-differ Boom Name h = (refl, refl)
 names-differ Boom Age h = (refl, refl)
 names-differ Boom Boom h = absurd (cc)
 
-same_name-self : (a : LeafName) → same_name a a ≡ true
+pub same_name-self : (a : LeafName) → same_name a a ≡ true
 same_name-self Id = refl
 same_name-self Name = refl
 same_name-self Age = refl
 same_name-self Boom = refl
 
 -- a count of a test that passes, or not
-count_true : (b : Bool) (n : ℕ) → b ≡ true → cond b (suc n) n ≡ suc n
+pub count_true : (b : Bool) (n : ℕ) → b ≡ true → cond b (suc n) n ≡ suc n
 count_true true n h = refl
 count_true false n h = absurd (cc)
 
-count_none : (b : Bool) (n : ℕ) → cond b (suc n) n ≡ 0 → (b ≡ false) × (n ≡ 0)
+pub count_none : (b : Bool) (n : ℕ) → cond b (suc n) n ≡ 0 → (b ≡ false) × (n ≡ 0)
 count_none true n h = absurd (cc)
 count_none false n h = (refl, h)
 
-times-cons : (a : LeafName) (l : Leaf) (ls : List Leaf) → times a (l ∷ ls) ≡ cond (same_name l.name a) (suc (times a ls)) (times a ls)
+pub times-cons : (a : LeafName) (l : Leaf) (ls : List Leaf) → times a (l ∷ ls) ≡ cond (same_name l.name a) (suc (times a ls)) (times a ls)
 times-cons a l ls = sum_by-cons (λ (x : Leaf). cond (same_name x.name a) 1 0) l ls ∙ by_test (same_name l.name a)
   where
     by_test : (b : Bool) → cond b 1 0 + times a ls ≡ cond b (suc (times a ls)) (times a ls)
@@ -75,7 +75,7 @@ first_once l ls n h =
     let one : times l.name (l ∷ ls) ≡ suc (times l.name ls) = times-cons l.name l ls ∙ count_true (same_name l.name l.name) (times l.name ls) (same_name-self l.name) in
     (omega (arith, one), omega (arith, one))
 
-fewer : (a : LeafName) (l : Leaf) (ls : List Leaf) → times a ls ≤ times a (l ∷ ls)
+pub fewer : (a : LeafName) (l : Leaf) (ls : List Leaf) → times a ls ≤ times a (l ∷ ls)
 fewer a l ls = rw (times-cons a l ls) (by_test (same_name l.name a) (times a ls))
   where
     by_test : (b : Bool) (n : ℕ) → n ≤ cond b (suc n) n

@@ -25,7 +25,7 @@ use Rattle.gql_tool.specs.declared.tables.HeroCell.{HeroCell}
 use Rattle.gql_tool.specs.declared.tables.HeroCell.TheVariants as hero_cells
 use Rattle.gql_tool.specs.Operation.{nodes_of}
 use Rattle.gql_tool.specs.Service.{service, query}
-use Rattle.gql_tool.specs.Hero.{hero_path, leaf_members, leaf_faults, some_bubble, hero_object, single, announcing, completing, completing_by, person_payloads, person_payloads_by, EachOnce}
+use Rattle.gql_tool.specs.Hero.{hero_path, leaf_members, leaf_faults, some_bubble, hero_object, single, announcing, completing, completing_by, person_payloads, person_payloads_by, standing_payloads, EachOnce}
 use Rattle.gql_tool.proofs.HeroMet.{document, nodes, fragment_id, fragment_in}
 use Rattle.gql_tool.proofs.HeroRegion.{initial_region-person, group_region-leaves, leaves_region_by, found_of, groups_of, hero_value, unless}
 use Rattle.gql_tool.proofs.HeroForest.{first_payloads-forest}
@@ -41,7 +41,7 @@ abbrev payloads_by : World → List Node → RegionResult → List Payload
 payloads_by w ns r = first_payload r ∷ later_payloads 0 (map (group_region w ns) r.groups)
 
 module _ (t : HeroTables) (spot hero : Spot) (leaves : List Leaf) (n : ℕ) (p : Person) (is : slice_get t.persons n ≡ Some p) where
-  abbrev region_by : Bool → Option Deferred → RegionResult
+  abbrev pub region_by : Bool → Option Deferred → RegionResult
   region_by b o = record { outcome = Good (hero_value t spot hero leaves n p is b); faults = leaf_faults p leaves; fragments = unless t spot hero leaves n p is b (found_of t spot hero leaves n p is o).fragments; groups = unless t spot hero leaves n p is b (found_of t spot hero leaves n p is o).groups; streams = [] }
 
   abbrev label_found : Deferred → Bool → Option (List ℕ)
@@ -81,16 +81,16 @@ pub payloads-person : (t : HeroTables) (d : HeroDocument) (n : ℕ) (p : Person)
 payloads-person t d n p is ref once = payloads-of t d.spot d.hero d.leaves n p is d.deferred once ref
 
 -- a hero that is null or an error
-abbrev null_region : List Fault → RegionResult
+abbrev pub null_region : List Fault → RegionResult
 null_region fs = record { outcome = Good (hero_object v.Null); faults = fs; fragments = []; groups = []; streams = [] }
 
-abbrev with_hero : HeroTables → HeroCell → HeroTables
+abbrev pub with_hero : HeroTables → HeroCell → HeroTables
 with_hero t c = record t { hero = c }
 
-region-null : (t : HeroTables) (d : HeroDocument) → initial_region (service (with_hero t hero_cells.Null)) (nodes_of d) query ≡ null_region []
+pub region-null : (t : HeroTables) (d : HeroDocument) → initial_region (service (with_hero t hero_cells.Null)) (nodes_of d) query ≡ null_region []
 region-null t d = refl
 
-region-error : (t : HeroTables) (d : HeroDocument) (m : List ℕ) → initial_region (service (with_hero t (hero_cells.Error m))) (nodes_of d) query ≡ null_region (fault_at d.hero m hero_path ∷ [])
+pub region-error : (t : HeroTables) (d : HeroDocument) (m : List ℕ) → initial_region (service (with_hero t (hero_cells.Error m))) (nodes_of d) query ≡ null_region (fault_at d.hero m hero_path ∷ [])
 region-error t d m = refl
 
 pub payloads-null : (t : HeroTables) (d : HeroDocument) → t.hero ≡ hero_cells.Null → first_payloads (forest (service t) (nodes_of d) query) ≡ single v.Null [] ∷ []
@@ -126,3 +126,19 @@ module _ (p : Person) (d : HeroDocument) where
 
   pub payloads-waiting : (def : Deferred) → some_bubble p d.leaves ≡ false → d.deferred ≡ Some def → (def.leaves ≡ [] → ⊥) → announcing (v.Object (leaf_members p d.leaves)) (leaf_faults p d.leaves) def.label ∷ completing p def.leaves ∷ [] ≡ person_payloads p d
   payloads-waiting def h is some = sym (ap (λ b. person_payloads_by b p d.leaves d.deferred) h ∙ (ap (person_payloads_by false p d.leaves) is ∙ waiting_by def def.leaves some))
+
+-- there is a first payload
+standing-first : (p : Person) (leaves : List Leaf) (o : Option Deferred) → (first : Payload) × (rest : List Payload) × (standing_payloads p leaves o ≡ first ∷ rest)
+standing-first p leaves None = (single (v.Object (leaf_members p leaves)) (leaf_faults p leaves), [], refl)
+standing-first p leaves (Some def) = by def.leaves
+  where
+    by : (ls : List Leaf) → (first : Payload) × (rest : List Payload) × (standing_payloads p leaves (Some (record { label = def.label; spot = def.spot; leaves = ls })) ≡ first ∷ rest)
+    by [] = (single (v.Object (leaf_members p leaves)) (leaf_faults p leaves), [], refl)
+    by (l ∷ ls) = (announcing (v.Object (leaf_members p leaves)) (leaf_faults p leaves) def.label, completing p (l ∷ ls) ∷ [], refl)
+
+payloads-first_by : (b : Bool) (p : Person) (leaves : List Leaf) (o : Option Deferred) → (first : Payload) × (rest : List Payload) × (person_payloads_by b p leaves o ≡ first ∷ rest)
+payloads-first_by true p leaves o = (single v.Null (leaf_faults p leaves), [], refl)
+payloads-first_by false p leaves o = standing-first p leaves o
+
+pub payloads-first : (p : Person) (d : HeroDocument) → (first : Payload) × (rest : List Payload) × (person_payloads p d ≡ first ∷ rest)
+payloads-first p d = payloads-first_by (some_bubble p d.leaves) p d.leaves d.deferred

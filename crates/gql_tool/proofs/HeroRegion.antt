@@ -49,7 +49,7 @@ person n = record { kind = 1; number = n }
 -- ---- leaves
 
 -- the leaves' fields by their nodes
-field_parts-leaves : (t : HeroTables) (ns : List Node) (object : List Occurrence → Row → List Key → Part) (n : ℕ) (p : Person) (parent k : ℕ) (tag : Option FragId) (ls : List Leaf) → slice_get t.persons n ≡ Some p → Placed ns k (map (leaf_node parent) ls) → map (λ d. field_part (service t) ns (object d.nodes) (person n) hero_path d) (leaf_details k tag ls) ≡ leaf_parts p ls
+pub field_parts-leaves : (t : HeroTables) (ns : List Node) (object : List Occurrence → Row → List Key → Part) (n : ℕ) (p : Person) (parent k : ℕ) (tag : Option FragId) (ls : List Leaf) → slice_get t.persons n ≡ Some p → Placed ns k (map (leaf_node parent) ls) → map (λ d. field_part (service t) ns (object d.nodes) (person n) hero_path d) (leaf_details k tag ls) ≡ leaf_parts p ls
 field_parts-leaves t ns object n p parent k tag [] is h = refl
 field_parts-leaves t ns object n p parent k tag (l ∷ ls) is h =
     let d : Detail = record { key = name_of l.name; nodes = record { node = k; tag = tag } ∷ [] } in
@@ -77,7 +77,7 @@ nothing_found : {A : Type 0} (g : Found → List A) → g no_found ≡ [] → (p
 nothing_found g none p [] = refl
 nothing_found g none p (l ∷ ls) = rw (found_in-cell (is_required l.name) l.spot (Rattle.gql_tool.specs.Hero.leaf_path l.name) (cell_under p l.name), none, nothing_found g none p ls) refl
 
-with_parts-leaves : (f : Found) (p : Person) (ls : List Leaf) → with_parts f (leaf_parts p ls) ≡ f
+pub with_parts-leaves : (f : Found) (p : Person) (ls : List Leaf) → with_parts f (leaf_parts p ls) ≡ f
 with_parts-leaves f p ls =
     rw (nothing_found (λ x. x.fragments) refl p ls, nothing_found (λ x. x.groups) refl p ls, nothing_found (λ x. x.streams) refl p ls)
     (rw (append-nil f.fragments, append-nil f.groups, append-nil f.streams) refl)
@@ -185,7 +185,7 @@ module _ (t : HeroTables) (spot hero : Spot) (leaves : List Leaf) (n : ℕ) (p :
   person_region o = record { outcome = Good (hero_value (some_bubble p leaves)); faults = leaf_faults p leaves; fragments = unless (some_bubble p leaves) (found_of o).fragments; groups = unless (some_bubble p leaves) (found_of o).groups; streams = [] }
 
   -- the region of a root whose one field gives this part
-  abbrev root_part : Part → Part
+  abbrev pub root_part : Part → Part
   root_part x = whole (object_value (record { key = codes "hero"; nodes = hero_occurrence } ∷ [])) no_found (x ∷ [])
 
   ordered-groups : (o : Option Deferred) → ordered group_cmp ((found_of o).groups ++ []) ≡ (found_of o).groups
@@ -200,7 +200,7 @@ module _ (t : HeroTables) (spot hero : Spot) (leaves : List Leaf) (n : ℕ) (p :
   streams-none None = refl
   streams-none (Some def) = refl
 
-  root_region : (o : Option Deferred) (b : Bool) (fs : List Fault) → region_of (root_part (soft (record { result = elim b [ true ↦ bubble | false ↦ good (v.Object (leaf_members p leaves)) (found_of o) ]; faults = fs }))) ≡ record { outcome = Good (hero_value b); faults = fs; fragments = unless b (found_of o).fragments; groups = unless b (found_of o).groups; streams = [] }
+  pub root_region : (o : Option Deferred) (b : Bool) (fs : List Fault) → region_of (root_part (soft (record { result = elim b [ true ↦ bubble | false ↦ good (v.Object (leaf_members p leaves)) (found_of o) ]; faults = fs }))) ≡ record { outcome = Good (hero_value b); faults = fs; fragments = unless b (found_of o).fragments; groups = unless b (found_of o).groups; streams = [] }
   root_region o true fs = ap (λ (gs : List Fault). (let r : RegionResult = record { outcome = Good (hero_value true); faults = gs; fragments = []; groups = []; streams = [] } in r)) (append-nil fs)
   root_region o false fs =
       let make : List Fault → List Frag → List Group → List Stream → RegionResult = λ gs xs ys zs. record { outcome = Good (hero_value false); faults = gs; fragments = xs; groups = ys; streams = ordered stream_cmp zs } in

@@ -20,7 +20,8 @@ leads_on file name bytes next o is within after = here (subst (λ (f : Option (L
 
 answered : (request : Option (HeroTables × HeroDocument)) (o : Outcome) → Answered request o → IsJudged o.status
 answered None o is = subst (λ (p : Outcome). IsJudged p.status) (sym is) tt
-answered (Some x) o is = subst (λ (p : Outcome). IsJudged p.status) (sym is) tt
+answered (Some x) o (inl delivered) = subst (λ (p : Outcome). IsJudged p.status) (sym delivered.is) tt
+answered (Some x) o (inr cut) = subst (λ (p : Outcome). IsJudged p.status) (sym cut.is) tt
 
 -- the right outcomes are those of the request
 right : (files : Files) (schema tables document vars : List ℕ) (o : Outcome) → HasFiles (Some files) schema tables document → LocalWays schema tables document vars files o

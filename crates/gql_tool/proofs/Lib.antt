@@ -1,17 +1,32 @@
+mod Asked
+mod Bodies
 mod Clients
+mod Cuts
 mod Digits
+mod Executed
+mod Executes
 mod Files
-mod Fronts
+mod HandedAll
+mod HandedOut
+mod HeroDelivery
 mod HeroFields
+mod HeroFlat
 mod HeroForest
+pub mod HeroForests
 mod HeroGroups
 mod HeroLeaf
+mod HeroMerged
 mod HeroMet
 mod HeroOnce
 mod HeroPayloads
+mod HeroPlain
 mod HeroRegion
+mod HeroResponses
+pub mod HeroSound
+mod HeroUnion
 mod Ids
 mod Judged
+mod Kept
 mod Labels
 mod Numbers
 mod Pieces
@@ -19,5 +34,8 @@ mod Reading
 mod Replays
 mod Rows
 mod Sent
+mod ServedBodies
+pub mod Spots
 mod Texts
 mod Tokens
+mod Understood

@@ -1,5 +1,5 @@
 -- What documents and tables that were read keep.
-use Rattle.std.proofs.Common.{◌≡◌, refl, sym, ℕ, suc, ◌+◌, ◌<◌, ◌≤◌, Bool, true, false, cond, List, [], ◌∷◌, length, Option, Some, None, Result, Ok, Err, subst, arith}
+use Rattle.std.proofs.Common.{◌≡◌, refl, sym, ap, ℕ, suc, ◌+◌, ◌<◌, ◌≤◌, Bool, true, false, cond, List, [], ◌∷◌, length, Option, Some, None, Result, Ok, Err, subst, arith}
 use Rattle.std.specs.Prelude.{◌&&◌, nat_le, option_map, option_and_then, bytes_eq, codes, IfOk, IfSome}
 use Rattle.std.specs.Option.{option_or}
 use Rattle.std.proofs.lemmas.Bool.Decides.{nat_tests}
@@ -15,19 +15,20 @@ use Rattle.gql_tool.specs.declared.tables.HeroCell.TheVariants as hero
 use Rattle.gql_tool.specs.declared.tables.HeroTables.{HeroTables}
 use Rattle.gql_tool.specs.Document.{document_in, document_of, tokens_of, once_each, stands_once, times, deferred_leaves_of, most_bytes}
 use Rattle.gql_tool.specs.HeroTables.{tables_in, tables_held, tables_by, hero_among, hero_cell, hero_by, ref_in, number_of, row_ids, error_in, is_null, only_text, fits_together, json_in, text_at, list_at, persons_in, only_row}
+use Rattle.gql_tool.specs.Local.{schema_text, no_variables, built}
 use Rattle.gql_tool.specs.Hero.{EachOnce, RefStands}
 
 -- ---- documents
 
-some_if : {A : Type 0} (b : Bool) (o : Option A) (x : A) → cond b o None ≡ Some x → (b ≡ true) × (o ≡ Some x)
+pub some_if : {A : Type 0} (b : Bool) (o : Option A) (x : A) → cond b o None ≡ Some x → (b ≡ true) × (o ≡ Some x)
 some_if true o x is = (refl, is)
 some_if false o x is = absurd (cc)
 
-some_then : {A B : Type 0} (f : A → Option B) (o : Option A) (y : B) → option_and_then f o ≡ Some y → (x : A) × (o ≡ Some x) × (f x ≡ Some y)
+pub some_then : {A B : Type 0} (f : A → Option B) (o : Option A) (y : B) → option_and_then f o ≡ Some y → (x : A) × (o ≡ Some x) × (f x ≡ Some y)
 some_then f None y is = absurd (cc)
 some_then f (Some x) y is = (x, refl, is)
 
-some_map : {A B : Type 0} (f : A → B) (o : Option A) (y : B) → option_map f o ≡ Some y → (x : A) × (o ≡ Some x) × (f x ≡ y)
+pub some_map : {A B : Type 0} (f : A → B) (o : Option A) (y : B) → option_map f o ≡ Some y → (x : A) × (o ≡ Some x) × (f x ≡ y)
 some_map f None y is = absurd (cc)
 some_map f (Some x) y is = (x, refl, cc)
 
@@ -112,6 +113,31 @@ tables_in-stands bytes t is =
     let p = some_then tables_held (json_in bytes) t is in
     let q = some_then (λ query. tables_by query (text_at (codes "@id") query) (option_and_then persons_in (list_at (codes "Person") p.0))) (option_and_then only_row (list_at (codes "Query") p.0)) t p.2 in
     tables_by-stands q.0 (text_at (codes "@id") q.0) (option_and_then persons_in (list_at (codes "Person") p.0)) t q.2
+
+-- ---- requests that are built
+
+abbrev Request : Type 0
+Request = HeroTables × HeroDocument
+
+built_by : (b : Bool) (ts : Option HeroTables) (ds : Option HeroDocument) (t : HeroTables) (d : HeroDocument) → cond {A = Option Request} b (option_and_then {U = Request} (λ x. option_map {U = Request} (λ y. (x, y)) ds) ts) None ≡ Some (t, d) → (ts ≡ Some t) × (ds ≡ Some d)
+built_by true None ds t d is = absurd (cc)
+built_by true (Some x) None t d is = absurd (cc)
+built_by true (Some x) (Some y) t d is =
+    let made : Request = (x, y) in
+    let request : Request = (t, d) in
+    let same : made ≡ request = cc in
+    (ap (λ (z : Request). Some z.0) same, ap (λ (z : Request). Some z.1) same)
+built_by false ts ds t d is = absurd (cc)
+
+-- a request that is built was read
+pub built-read : (vars schema tables document : List ℕ) (t : HeroTables) (d : HeroDocument) → built vars schema tables document ≡ Some (t, d) → (tables_in tables ≡ Some t) × (document_in document ≡ Some d)
+built-read vars schema tables document = built_by (bytes_eq vars no_variables && bytes_eq schema schema_text) (tables_in tables) (document_in document)
+
+pub built-once : (vars schema tables document : List ℕ) (t : HeroTables) (d : HeroDocument) → built vars schema tables document ≡ Some (t, d) → EachOnce d
+built-once vars schema tables document t d is = document_in-once document d (built-read vars schema tables document t d is).1
+
+pub built-stands : (vars schema tables document : List ℕ) (t : HeroTables) (d : HeroDocument) → built vars schema tables document ≡ Some (t, d) → RefStands t
+built-stands vars schema tables document t d is = tables_in-stands tables t (built-read vars schema tables document t d is).0
 
 -- ---- as answers say them
 

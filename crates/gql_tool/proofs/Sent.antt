@@ -1,5 +1,6 @@
 -- Pieces that are put one after the other.
-use Rattle.std.proofs.Common.{◌≡◌, refl, sym, ap, ◌∙◌, ℕ, List, [], ◌∷◌, ◌++◌, Option, Result, Ok, Err, IsErr, IfErr, true, false, subst, inl, inr, append_assoc}
+use Rattle.std.proofs.lemmas.List.{take_all}
+use Rattle.std.proofs.Common.{◌≡◌, arith, length, refl, sym, ap, ◌∙◌, ℕ, List, [], ◌∷◌, ◌++◌, Option, Result, Ok, Err, IsErr, IfErr, true, false, subst, inl, inr, append_assoc}
 use Rattle.std.specs.Prelude.{◌⊎◌}
 use Rattle.gql_tool.specs.declared.status.Status.{Status}
 use Rattle.gql_tool.specs.declared.status.Status.TheVariants.{Done, NoMemory, WriteFault}
@@ -16,6 +17,10 @@ use Rattle.gql_tool.proofs.HeroFields.{append-nil}
 -- nothing is a prefix
 pub Prefix-nothing : (a : Option (List ℕ)) (bytes : List ℕ) → AppendsPrefix a a bytes
 Prefix-nothing a bytes = (0, Appends-nil a)
+
+-- all of it is a prefix
+pub Prefix-all : (a b : Option (List ℕ)) (bytes : List ℕ) → Appends a b bytes → AppendsPrefix a b bytes
+Prefix-all a b bytes sent = (length bytes, subst (Appends a b) (sym (take_all (length bytes) bytes (omega arith))) sent)
 
 pub Puts-nothing : {T E : Type 0} (a : Option (List ℕ)) (bytes : List ℕ) (r : Result T E) → IsErr r → Puts a a bytes r
 Puts-nothing a bytes (Ok x) err = absurd (cc err)

@@ -1,6 +1,6 @@
 -- What a leaf of the hero completes to, for private clauses.
-use Rattle.std.specs.Prelude.{ℕ, ◌+◌, ◌<◌, ◌≤◌, length, Bool, true, false, List, [], ◌∷◌, map, flat_map, Option, Some, None, is_none, codes, decimal, ◌≡◌}
-use Rattle.std.specs.List.{list_any}
+use Rattle.std.specs.Prelude.{ℕ, ◌+◌, ◌<◌, ◌≤◌, length, Bool, true, false, List, [], ◌∷◌, map, flat_map, Option, Some, None, is_none, IfSome, codes, decimal, ◌≡◌}
+use Rattle.std.specs.List.{AllByRecursion, list_any}
 use Rattle.gql_tree.specs.declared.Key.{Key}
 use Rattle.gql_tree.specs.declared.Key.TheVariants.{Name as Named_key}
 use Rattle.gql_tree.specs.declared.Spot.{Spot}
@@ -69,6 +69,21 @@ leaf_member p leaf = record { name = name_of leaf.name; value = value_in (leaf_p
 -- no leaf stands twice in a document
 abbrev pub EachOnce : HeroDocument → Type 0
 EachOnce d = (name : LeafName) → times name d.leaves + times name (deferred_leaves_of d.deferred) ≤ 1
+
+-- lines and columns count from 1
+abbrev pub IsSpot : Spot → Type 0
+IsSpot spot = (1 ≤ spot.line) × (1 ≤ spot.column)
+
+abbrev pub ArePlaced : List Leaf → Type 0
+ArePlaced leaves = AllByRecursion (λ leaf. IsSpot leaf.spot) leaves
+
+-- so they do at each place of a document
+pub record IsPlaced (d : HeroDocument) : Type 0 where
+  pub operation : IsSpot d.spot
+  pub hero : IsSpot d.hero
+  pub leaves : ArePlaced d.leaves
+  pub fragment : IfSome d.deferred (λ def. IsSpot def.spot)
+  pub deferred : ArePlaced (deferred_leaves_of d.deferred)
 
 -- ---- several leaves
 

@@ -13,3 +13,7 @@ pub mod Client
 pub mod Heard
 pub mod Replay
 pub mod Hearing
+pub mod LocalClient
+pub mod Served
+pub mod Handed
+pub mod Stages

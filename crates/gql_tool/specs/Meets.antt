@@ -8,6 +8,9 @@ use Rattle.gql_tool.specs.declared.status.Status.TheVariants.{Done, Refused, Usa
 use Rattle.gql_tool.specs.Outcome.{Outcome, Ways, names, file_limit}
 use Rattle.gql_tool.specs.Local.{LocalWays}
 use Rattle.gql_tool.specs.Replay.{ReplayWays, IsReplayed}
+use Rattle.gql_tool.specs.Served.{IsServed}
+use Rattle.gql_tool.specs.declared.document.HeroDocument.{HeroDocument}
+use Rattle.gql_tool.specs.declared.tables.HeroTables.{HeroTables}
 use Rattle.gql_tool.specs.Words.{Form, LocalForm, ReplayForm}
 
 -- a right outcome's status, and all of its bytes
@@ -45,7 +48,6 @@ Answers files input (Some form) status old new = Ends files input form status ol
 -- the statuses that `local` ends with in this build, whether the shelf tells or not
 abbrev pub IsAnswer : Status → Type 0
 IsAnswer Usage = ⊥
-IsAnswer StreamRefused = ⊥
 IsAnswer DoorFault = ⊥
 IsAnswer InputsRefused = ⊥
 IsAnswer _ = ⊤
@@ -79,20 +81,29 @@ abbrev pub IsWork : Status → Type 0
 IsWork Refused = ⊤
 IsWork WriteFault = ⊤
 IsWork NoMemory = ⊤
+IsWork StreamRefused = ⊤
 IsWork _ = ⊥
 
 -- those that end a request that is executed
 abbrev pub IsDelivery : Status → Type 0
 IsDelivery WriteFault = ⊤
 IsDelivery NoMemory = ⊤
+IsDelivery StreamRefused = ⊤
 IsDelivery _ = ⊥
 
--- and those that are left where the files are there and nothing outside fails
+-- those of `local` that are left where the files are there and nothing outside fails
 abbrev pub IsJudged : Status → Type 0
 IsJudged Done = ⊤
 IsJudged Refused = ⊤
 IsJudged NoMemory = ⊤
+IsJudged StreamRefused = ⊤
 IsJudged _ = ⊥
+
+-- those of `replay` that are left where the input is a server's body and nothing outside fails
+abbrev pub IsEndOfBody : Status → Type 0
+IsEndOfBody Done = ⊤
+IsEndOfBody NoMemory = ⊤
+IsEndOfBody _ = ⊥
 
 -- a file that a command can go on with
 abbrev pub HasFile : Files → List ℕ → Type 0
@@ -103,10 +114,21 @@ abbrev pub HasFiles : Option Files → (schema tables document : List ℕ) → T
 HasFiles None schema tables document = ⊥
 HasFiles (Some files) schema tables document = HasFile files schema × HasFile files tables × HasFile files document
 
--- the words are the command `local`, and its files are there
-abbrev pub Ready : Option Files → Option Form → Type 0
-Ready told (Some (LocalForm schema tables document vars workers cut)) = HasFiles told schema tables document
-Ready told _ = ⊥
+-- the files of `local` are there, or the input of `replay` is a server's body
+abbrev pub Ready : Option Files → Option (List ℕ) → Option Form → Type 0
+Ready files input None = ⊥
+Ready files input (Some (LocalForm schema tables document vars workers cut)) = HasFiles files schema tables document
+Ready files input (Some (ReplayForm boundary)) = (t : HeroTables) × (d : HeroDocument) × IsServed t d boundary input
+
+-- the statuses that are left then, where nothing outside fails
+abbrev pub IsComplete : Option Form → Status → Type 0
+IsComplete (Some (ReplayForm boundary)) status = IsEndOfBody status
+IsComplete _ status = IsJudged status
+
+-- the words are the command `replay`, and its input is the body of this request
+abbrev pub Serves : HeroTables → HeroDocument → Option (List ℕ) → Option Form → Type 0
+Serves t d input (Some (ReplayForm boundary)) = IsServed t d boundary input
+Serves t d input _ = ⊥
 
 -- the file has these bytes, where the shelf tells
 abbrev pub Finds : Option Files → List ℕ → List ℕ → Type 0

@@ -40,5 +40,5 @@ form_of _ = None
 
 -- what a command's fields point to
 abbrev pub said : Command → Form
-said (Local schema tables document vars workers cut) = LocalForm schema.now tables.now document.now vars.now workers cut
+said (Local words) = LocalForm words.schema.now words.tables.now words.document.now words.vars.now words.workers words.cut
 said (Replay boundary) = ReplayForm boundary.now

@@ -7,11 +7,17 @@ ghost use Rattle.gql_io.specs.Told.{Puts};
 ghost use Rattle.gql_tool.specs.Words.{form_of};
 ghost use Rattle.gql_tool.specs.Outcome.{names, file_limit};
 ghost use Rattle.gql_tool.specs.Local.{LocalWays};
-ghost use Rattle.gql_tool.specs.Meets.{Meets, MeetsTold, Answers, IsAnswer, IsStop, IsJudged, IsEnd, ReadsFiles, ReadsInput, HasFiles, Ready, Finds, StopsAt, ended};
+ghost use Rattle.gql_tool.specs.LocalClient.{IsNew, Asks, ClientEnds, ClientOf};
+ghost use Rattle.gql_tool.specs.Meets.{Meets, MeetsTold, Answers, IsAnswer, IsStop, IsJudged, IsComplete, IsEnd, ReadsFiles, ReadsInput, HasFiles, Ready, Serves, Finds, StopsAt, ended};
+ghost use Rattle.gql_tool.specs.Served.{MergedWay};
+ghost use Rattle.gql_tool.specs.declared.document.HeroDocument.{HeroDocument as DocumentOf};
+ghost use Rattle.gql_tool.specs.declared.tables.HeroTables.{HeroTables as TablesOf};
 
 use crate::Status;
+use crate::client::Client;
 use crate::hearing::replay;
-use crate::request::answer;
+use crate::local_words::LocalWords;
+use crate::request::{answer, request_of};
 use crate::words::{Command, parse};
 use gql_io::{Failed, Shelf, ShelfRefusal, Sink, Source};
 use gql_tree::{Bytes, Text};
@@ -70,31 +76,32 @@ fn file<S: Shelf, O: Sink>(
 /// Reads the files in order, and answers the request that they are.
 fn read_and_answer<S: Shelf, O: Sink>(
     alloc: Global,
-    schema: &str,
-    tables: &str,
-    document: &str,
-    vars: &str,
+    words: &LocalWords<'_>,
     shelf: &mut S,
     output: &mut O,
+    client: &mut Client,
 ) -> Result<(), Status>
-    ensures meets { MeetsTold (S.files shelf.old) (LocalWays schema.now tables.now document.now vars.now)
+    requires { IsNew client.old }
+    ensures meets { MeetsTold (S.files shelf.old) (LocalWays words.now.schema.now words.now.tables.now words.now.document.now words.now.vars.now)
         (ended result) (O.sent output.old) (O.sent output.new) }
+    ensures client { ClientEnds (Asks (S.files shelf.old) words.now.schema.now words.now.tables.now words.now.document.now words.now.vars.now) words.now.cut
+        client.old client.new (ended result) }
     ensures statuses { IsAnswer (ended result) }
     ensures same { S.files shelf.new ≡ S.files shelf.old }
     ensures read_fault { Counts (S.faults shelf.old) (S.faults shelf.new) (ended result ≡ Status.ReadFault) }
     ensures write_fault { Counts (O.faults output.old) (O.faults output.new) (ended result ≡ Status.WriteFault) }
 {
-    let schema = file(alloc, schema, shelf, output)?;
-    let tables = file(alloc, tables, shelf, output)?;
-    let document = file(alloc, document, shelf, output)?;
-    answer(
+    let schema = file(alloc, words.schema, shelf, output)?;
+    let tables = file(alloc, words.tables, shelf, output)?;
+    let document = file(alloc, words.document, shelf, output)?;
+    let request = request_of(
         alloc,
-        vars,
+        words.vars,
         schema.as_slice(),
         tables.as_slice(),
         document.as_slice(),
-        output,
-    )
+    )?;
+    answer(alloc, &request, words.cut, output, client)
 }
 
 fn status_of(end: Result<(), Status>) -> Status
@@ -106,45 +113,53 @@ fn status_of(end: Result<(), Status>) -> Status
     }
 }
 
-/// The command `local`: the request of three files is answered on this machine alone.
+/// The command `local`: the request of three files is answered on this machine alone, and merged by the
+/// client.
 ///
 /// It reads the schema, the tables and the document in this order, each at most once, and ends at
-/// the first that is missing or has too many bytes with a line that names it.
+/// the first that is missing or has too many bytes with a line that names it. The client, which was
+/// made for the boundary `-` and fed nothing, is fed each piece of the answer when it was written, in
+/// cuts of so many bytes as the words say; the line that reports what it merged ends the output.
 pub fn local<S: Shelf, O: Sink>(
     alloc: Global,
-    schema: &str,
-    tables: &str,
-    document: &str,
-    vars: &str,
+    words: &LocalWords<'_>,
     shelf: &mut S,
     output: &mut O,
+    client: &mut Client,
 ) -> Status
+    requires { IsNew client.old }
+
     // The causes of what stops it, whether the shelf tells or not.
     ensures read_fault { Counts (S.faults shelf.old) (S.faults shelf.new) (result ≡ Status.ReadFault) }
     ensures write_fault { Counts (O.faults output.old) (O.faults output.new) (result ≡ Status.WriteFault) }
     ensures statuses { IsAnswer result }
 
-    // The status and what is written, where it tells.
-    ensures answers { MeetsTold (S.files shelf.old) (LocalWays schema.now tables.now document.now vars.now) result
+    // The status, what is written and what the client is, where the shelf tells.
+    ensures answers { MeetsTold (S.files shelf.old) (LocalWays words.now.schema.now words.now.tables.now words.now.document.now words.now.vars.now) result
         (O.sent output.old) (O.sent output.new) }
-    ensures complete { HasFiles (S.files shelf.old) schema.now tables.now document.now
+    ensures client { ClientEnds (Asks (S.files shelf.old) words.now.schema.now words.now.tables.now words.now.document.now words.now.vars.now) words.now.cut
+        client.old client.new result }
+    ensures complete { HasFiles (S.files shelf.old) words.now.schema.now words.now.tables.now words.now.document.now
         → ¬ Rose (S.faults shelf.old) (S.faults shelf.new) → ¬ Rose (O.faults output.old) (O.faults output.new)
         → IsJudged result }
 
     ensures same { S.files shelf.new ≡ S.files shelf.old }
 {
-    status_of(read_and_answer(alloc, schema, tables, document, vars, shelf, output))
+    status_of(read_and_answer(alloc, words, shelf, output, client))
 }
 
-/// All that the program does.
-#[tactic(auto, using(crate::proofs::Fronts::local_front))]
+/// All that the program does. The client is as `Client::new` gives it for the boundary `-`; `local` feeds
+/// it, and every other command leaves it unchanged.
 pub fn tool<S: Shelf, I: Source, O: Sink>(
     alloc: Global,
     words: &[Text],
     shelf: &mut S,
     input: &mut I,
     output: &mut O,
+    client: &mut Client,
 ) -> Status
+    requires { IsNew client.old }
+
     // The causes of what stops it, whether shelf and input tell or not.
     ensures usage { (result ≡ Status.Usage) ↔ (form_of words.now ≡ None) }
     ensures read_fault { Counts (S.faults shelf.old) (S.faults shelf.new) (ReadsFiles (form_of words.now) × (result ≡ Status.ReadFault)) }
@@ -152,25 +167,20 @@ pub fn tool<S: Shelf, I: Source, O: Sink>(
     ensures write_fault { Counts (O.faults output.old) (O.faults output.new) (result ≡ Status.WriteFault) }
     ensures statuses { IsEnd (form_of words.now) result }
 
-    // The status and what is written, where the one that is read tells.
+    // The status, what is written and what the client is, where the one that is read tells.
     ensures answers { Answers (S.files shelf.old) (I.left input.old) (form_of words.now) result (O.sent output.old) (O.sent output.new) }
-    ensures complete { Ready (S.files shelf.old) (form_of words.now)
-        → ¬ Rose (S.faults shelf.old) (S.faults shelf.new) → ¬ Rose (O.faults output.old) (O.faults output.new)
-        → IsJudged result }
+    ensures client { ClientOf (S.files shelf.old) (form_of words.now) client.old client.new result }
+    ensures merges { (t : TablesOf) (d : DocumentOf) → Serves t d (I.left input.old) (form_of words.now)
+        → Meets (MergedWay t d) result (O.sent output.old) (O.sent output.new) }
+    ensures complete { Ready (S.files shelf.old) (I.left input.old) (form_of words.now)
+        → ¬ Rose (S.faults shelf.old) (S.faults shelf.new) → ¬ Rose (I.faults input.old) (I.faults input.new)
+        → ¬ Rose (O.faults output.old) (O.faults output.new) → IsComplete (form_of words.now) result }
 
     ensures same { S.files shelf.new ≡ S.files shelf.old }
 {
     match parse(words) {
         None => Status::Usage,
-        Some(
-            Command::Local {
-                schema,
-                tables,
-                document,
-                vars,
-                ..
-            },
-        ) => local(alloc, schema, tables, document, vars, shelf, output),
+        Some(Command::Local(words)) => local(alloc, &words, shelf, output, client),
         Some(Command::Replay { boundary }) => replay(alloc, boundary, input, output),
     }
 }

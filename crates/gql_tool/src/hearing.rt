@@ -3,16 +3,19 @@
 ghost use Rattle.std.specs.Prelude.{◌≡◌, ◌+◌, ◌-◌, ◌<◌, ◌≤◌, ◌≢◌, ◌⊎◌, ◌++◌, length, List, ℕ, Some, IfOk, IfErr, IsErrOf};
 ghost use Rattle.std.specs.Io.KnownBytes.{Keeps};
 ghost use Rattle.gql_io.specs.Faults.{Counts};
-ghost use Rattle.gql_tool.specs.Heard.{Stands, nothing_heard, reason_of};
+ghost use Rattle.gql_tool.specs.Heard.{Stands, nothing_heard};
 ghost use Rattle.gql_tool.specs.Hearing.{EndsAt, heard_of, hearing_of};
 ghost use Rattle.gql_tool.specs.Meets.{Meets, MeetsTold};
-ghost use Rattle.gql_tool.specs.Replay.{budget, lines_of, HeardWays, ReplayWays, IsReplayed};
+ghost use Rattle.gql_tool.specs.Served.{IsServed, MergedWay};
+ghost use Rattle.gql_tool.specs.declared.document.HeroDocument.{HeroDocument as DocumentOf};
+ghost use Rattle.gql_tool.specs.declared.tables.HeroTables.{HeroTables as TablesOf};
+ghost use Rattle.gql_tool.specs.Replay.{budget, HeardWays, ReplayWays, IsReplayed};
 
 use crate::Status;
 use crate::client::{Client, ClientRefusal};
+use crate::lines::{put_and_end, put_lines};
 use gql_io::{Sink, Source};
 use gql_multipart::FrameRefusal;
-use gql_tree::{NoMemory, Text};
 use std::alloc::Global;
 
 /// The most bytes of a body that are heard.
@@ -78,56 +81,13 @@ pub(crate) fn hear<I: Source>(client: &mut Client, input: &mut I) -> Hearing
         → (front rest : List ℕ) × (bytes ≡ front ++ rest) × (length front ≤ budget) × EndsAt boundary front rest client.new result }
     ensures cause { Counts (I.faults input.old) (I.faults input.new) (result ≡ Hearing.Fault) }
 {
-    let mut room = [0; 4096];
+    let mut room = [0; 65_536];
     let mut count = 0;
     loop {
         match hear_next(client, input, &mut room, count) {
             Ok(taken) => count += taken,
             Err(end) => return end,
         }
-    }
-}
-
-/// What is written of a client.
-fn lines(alloc: Global, client: &Client) -> Result<Text, NoMemory>
-    ensures { IfOk result (λ text. text ≡ lines_of (reason_of client.now.stop) client.now.merger.state) }
-{
-    let report = client.merger().report()?;
-    let report = report.as_str();
-    let lines = match client.reason() {
-        None => format!(in alloc; "merged {report}\n")?,
-        Some(reason) => {
-            let reason = reason.as_str();
-            format!(in alloc; "refused {reason}\nmerged {report}\n")?
-        }
-    };
-    Ok(Text::from_string(lines))
-}
-
-/// Writes bytes, and ends with this status.
-fn put_and_end<O: Sink>(bytes: &[u8], status: Status, output: &mut O) -> Status
-    requires { (status ≡ Status.Done) ⊎ ((status ≡ Status.StreamRefused) ⊎ (status ≡ Status.TooLong)) }
-    ensures meets { Meets (λ o. o ≡ record { status = status; bytes = bytes.now }) result (O.sent output.old) (O.sent output.new) }
-    ensures statuses { (result ≡ status) ⊎ (result ≡ Status.WriteFault) }
-    ensures write_fault { Counts (O.faults output.old) (O.faults output.new) (result ≡ Status.WriteFault) }
-{
-    match output.put(bytes) {
-        Ok(()) => status,
-        Err(_) => Status::WriteFault,
-    }
-}
-
-/// Writes what is written of a client, and ends with this status.
-fn put_lines<O: Sink>(alloc: Global, client: &Client, status: Status, output: &mut O) -> Status
-    requires { (status ≡ Status.Done) ⊎ (status ≡ Status.StreamRefused) }
-    ensures meets { Meets (λ o. o ≡ record { status = status; bytes = lines_of (reason_of client.now.stop) client.now.merger.state }) result
-        (O.sent output.old) (O.sent output.new) }
-    ensures statuses { (result ≡ status) ⊎ ((result ≡ Status.WriteFault) ⊎ (result ≡ Status.NoMemory)) }
-    ensures write_fault { Counts (O.faults output.old) (O.faults output.new) (result ≡ Status.WriteFault) }
-{
-    match lines(alloc, client) {
-        Ok(lines) => put_and_end(lines.as_str().as_bytes(), status, output),
-        Err(NoMemory) => Status::NoMemory,
     }
 }
 
@@ -182,6 +142,10 @@ pub fn replay<I: Source, O: Sink>(
     ensures statuses { IsReplayed result }
     ensures read_fault { Counts (I.faults input.old) (I.faults input.new) (result ≡ Status.ReadFault) }
     ensures write_fault { Counts (O.faults output.old) (O.faults output.new) (result ≡ Status.WriteFault) }
+
+    // The body that `local` writes is merged to the defined response.
+    ensures merges { (t : TablesOf) (d : DocumentOf) → IsServed t d boundary.now (I.left input.old)
+        → Meets (MergedWay t d) result (O.sent output.old) (O.sent output.new) }
 {
     match Client::new(alloc, boundary) {
         Ok(client) => {

@@ -4,10 +4,14 @@
 //! `specs/Local.antt` the right outcomes of the command `local`, and `specs/Meets.antt` how a status
 //! and what is written meet them.
 //!
+//! `local` hands out each payload as it is made: `handing` puts its piece of the multipart body and
+//! feeds it to the client in cuts (`specs/LocalClient.antt` says what the client is then), and `lines`
+//! writes what the client merged.
+//!
 //! What is still built for one shape of request alone stands in modules that move out later:
 //! `document` reads the documents (`specs/Document.antt`, `specs/Operation.antt`), `tables` the tables
-//! (`specs/HeroTables.antt`), `region` runs leaves, `delivery` makes payloads, and `deliver` puts them
-//! one by one. That they are the payloads of the general definitions of execution is proved in
+//! (`specs/HeroTables.antt`), `region` runs leaves, `delivery` makes payloads, and `deliver` hands them
+//! out one by one. That they are the payloads of the general definitions of execution is proved in
 //! `proofs/HeroPayloads.antt`, for the contract of `deliver`.
 #![tactic(auto)]
 
@@ -16,7 +20,11 @@ mod command;
 mod deliver;
 mod delivery;
 mod document;
+mod handing;
 mod hearing;
+mod laws;
+mod lines;
+mod local_words;
 mod region;
 mod request;
 mod status;
@@ -29,5 +37,7 @@ pub use client::{Client, ClientRefusal};
 pub use command::{local, tool};
 pub use document::worked_documents;
 pub use hearing::replay;
+pub use laws::a_response_without_failures_is_plain;
+pub use local_words::LocalWords;
 pub use status::Status;
 pub use tables::worked_tables;

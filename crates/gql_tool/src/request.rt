@@ -1,16 +1,19 @@
 //! What follows the reading of the files: the request that they are is executed or refused.
 
-ghost use Rattle.std.specs.Prelude.{◌≡◌, IfOk, IfErr, IfSome, IsErrOf, bytes_eq};
+ghost use Rattle.std.specs.Prelude.{◌≡◌, ◌<◌, Some, IfOk, IfErr, IfSome, IsErr, IsErrOf, bytes_eq};
 ghost use Rattle.gql_io.specs.Faults.{Counts};
 ghost use Rattle.gql_tool.specs.Local.{schema_text, built, refused, Answered};
-ghost use Rattle.gql_tool.specs.Meets.{Meets, IsWork, ended};
+ghost use Rattle.gql_tool.specs.LocalClient.{IsNew, ClientEnds};
+ghost use Rattle.gql_tool.specs.Meets.{Meets, IsWork, IsDelivery, ended};
 ghost use Rattle.gql_tool.specs.Document.{document_in};
 ghost use Rattle.gql_tool.specs.HeroTables.{tables_in};
-ghost use Rattle.gql_tool.specs.Hero.{EachOnce, RefStands};
+ghost use Rattle.gql_tool.specs.Hero.{EachOnce, RefStands, IsPlaced};
 
 use crate::Status;
+use crate::client::Client;
 use crate::deliver::deliver;
 use crate::document::{HeroDocument, read_document};
+use crate::lines::put_merged_line;
 use crate::tables::{HeroTables, read_tables};
 use gql_io::Sink;
 use gql_multipart::frame;
@@ -40,12 +43,13 @@ fn tables_of(alloc: Global, bytes: &[u8]) -> Result<Option<HeroTables>, NoMemory
 fn document_of(alloc: Global, bytes: &[u8]) -> Result<Option<HeroDocument>, NoMemory>
     ensures read { IfOk result (λ document. document ≡ document_in bytes.now) }
     ensures once { IfOk result (λ document. IfSome document EachOnce) }
+    ensures placed { IfOk result (λ document. IfSome document IsPlaced) }
 {
     read_document(alloc, bytes)
 }
 
 /// The tables and the document of a request that this build executes.
-fn request_of(
+pub(crate) fn request_of(
     alloc: Global,
     vars: &str,
     schema: &[u8],
@@ -55,6 +59,7 @@ fn request_of(
     ensures request { IfOk result (λ request. request ≡ built vars.now schema.now tables.now document.now) }
     ensures stands { IfOk result (λ request. IfSome request (λ x. RefStands x.0)) }
     ensures once { IfOk result (λ request. IfSome request (λ x. EachOnce x.1)) }
+    ensures placed { IfOk result (λ request. IfSome request (λ x. IsPlaced x.1)) }
 {
     if vars != "-" || !is_built_schema(schema) {
         return Ok(None);
@@ -95,6 +100,8 @@ fn refusal_body(alloc: Global, message: &str) -> Result<Bytes, NoMemory>
 fn refuse<O: Sink>(alloc: Global, message: &str, output: &mut O) -> Result<(), Status>
     ensures meets { Meets (λ o. o ≡ refused message.now) (ended result) (O.sent output.old) (O.sent output.new) }
     ensures statuses { IfErr result IsWork }
+    ensures never_done { IsErr result }
+    ensures never_stopped { IsErrOf result Status.StreamRefused → ⊥ }
     ensures write_fault { Counts (O.faults output.old) (O.faults output.new) (IsErrOf result Status.WriteFault) }
 {
     let body = refusal_body(alloc, message)?;
@@ -104,22 +111,49 @@ fn refuse<O: Sink>(alloc: Global, message: &str, output: &mut O) -> Result<(), S
     }
 }
 
-/// Answers the request that the files are.
-pub fn answer<O: Sink>(
+/// Executes a request that is built: the client is fed the body, and the line of what it merged follows.
+fn execute<O: Sink>(
     alloc: Global,
-    vars: &str,
-    schema: &[u8],
-    tables: &[u8],
-    document: &[u8],
+    tables: &HeroTables,
+    document: &HeroDocument,
+    cut: usize,
     output: &mut O,
+    client: &mut Client,
 ) -> Result<(), Status>
-    ensures meets { Meets (Answered (built vars.now schema.now tables.now document.now)) (ended result)
-        (O.sent output.old) (O.sent output.new) }
-    ensures statuses { IfErr result IsWork }
+    requires once { EachOnce document.now }
+    requires stands { RefStands tables.now }
+    requires placed { IsPlaced document.now }
+    requires cut { 0 < cut }
+    requires client { IsNew client.old }
+    ensures meets { Meets (Answered (Some (tables.now, document.now))) (ended result) (O.sent output.old) (O.sent output.new) }
+    ensures statuses { IfErr result IsDelivery }
+    ensures client { ClientEnds (λ t d. (t ≡ tables.now) × (d ≡ document.now)) cut client.old client.new (ended result) }
     ensures write_fault { Counts (O.faults output.old) (O.faults output.new) (IsErrOf result Status.WriteFault) }
 {
-    match request_of(alloc, vars, schema, tables, document)? {
-        Some((tables, document)) => deliver(alloc, &tables, &document, output),
+    deliver(alloc, tables, document, cut, output, client)?;
+    put_merged_line(alloc, client, output)
+}
+
+/// Answers a request.
+pub(crate) fn answer<O: Sink>(
+    alloc: Global,
+    request: &Option<(HeroTables, HeroDocument)>,
+    cut: usize,
+    output: &mut O,
+    client: &mut Client,
+) -> Result<(), Status>
+    requires stands { IfSome request.now (λ x. RefStands x.0) }
+    requires once { IfSome request.now (λ x. EachOnce x.1) }
+    requires placed { IfSome request.now (λ x. IsPlaced x.1) }
+    requires cut { 0 < cut }
+    requires client { IsNew client.old }
+    ensures meets { Meets (Answered request.now) (ended result) (O.sent output.old) (O.sent output.new) }
+    ensures statuses { IfErr result IsWork }
+    ensures client { ClientEnds (λ t d. request.now ≡ Some (t, d)) cut client.old client.new (ended result) }
+    ensures write_fault { Counts (O.faults output.old) (O.faults output.new) (IsErrOf result Status.WriteFault) }
+{
+    match request {
+        Some((tables, document)) => execute(alloc, tables, document, cut, output, client),
         None => refuse(alloc, "NotBuilt", output),
     }
 }

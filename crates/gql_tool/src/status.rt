@@ -18,7 +18,7 @@ pub enum Status {
     WriteFault,
     /// There was no memory left.
     NoMemory,
-    /// The bytes of an answer are refused by the client. No command of this build ends so.
+    /// The client refused the bytes of an answer.
     StreamRefused,
     /// A file is missing, and what is written names it.
     NoFile,

@@ -1,25 +1,17 @@
-ghost use Rattle.std.specs.Prelude.{◌≡◌, is_some, IfSome, option_map};
+ghost use Rattle.std.specs.Prelude.{◌≡◌, ◌≤◌, is_some, IfSome, option_map};
 ghost use Rattle.std.specs.Str.Parse.{digits_value};
 ghost use Rattle.std.specs.Char.{is_ascii_digit};
 ghost use Rattle.std.specs.List.{list_all};
 ghost use Rattle.gql_tool.specs.Words.{form_of, local_form, said, is_decimal, has_no_leading_zero, is_number};
 
+use crate::local_words::LocalWords;
 use gql_tree::Text;
 
 /// A command line that has a form.
-#[derive(Clone, Copy, Debug, PartialEq, Eq)]
+#[derive(Clone, Copy, Debug)]
 pub enum Command<'a> {
-    Local {
-        schema: &'a str,
-        tables: &'a str,
-        document: &'a str,
-        vars: &'a str,
-        workers: u64,
-        cut: u64,
-    },
-    Replay {
-        boundary: &'a str,
-    },
+    Local(LocalWords<'a>),
+    Replay { boundary: &'a str },
 }
 
 /// A single byte, or more of which the first is no `0`.
@@ -51,6 +43,7 @@ fn is_decimal(text: &str) -> bool
 fn number(text: &str, low: u64, high: u64) -> Option<u64>
     ensures form { is_some result ≡ is_number low high text.now }
     ensures value { IfSome result (λ n. n ≡ digits_value 10 text.now) }
+    ensures range { IfSome result (λ n. (low ≤ n) × (n ≤ high)) }
 {
     if !is_decimal(text) {
         return None;
@@ -75,14 +68,14 @@ fn local<'a>(
 {
     let workers = number(workers, 0, 0)?;
     let cut = number(cut, 1, 1_048_576)?;
-    Some(Command::Local {
+    Some(Command::Local(LocalWords {
         schema,
         tables,
         document,
         vars,
         workers,
-        cut,
-    })
+        cut: cut as usize,
+    }))
 }
 
 /// The command that a list of words is.

@@ -8,5 +8,5 @@ returns-clause-complete g c = λ has no_read no_write.
     let old = g.O.Sink.sent c.args.output.now in
     let new = g.O.Sink.sent c.read_and_answer.new.output in
     subst IsJudged (sym c.status_of.ensures)
-    (judged _ c.args.schema.now c.args.tables.now c.args.document.now c.args.vars.now _ old new has c.read_and_answer.ensures.meets
+    (judged _ c.args.words.now.schema.now c.args.words.now.tables.now c.args.words.now.document.now c.args.words.now.vars.now _ old new has c.read_and_answer.ensures.meets
     (λ is. no_read (c.read_and_answer.ensures.read_fault.rose is)) (λ is. no_write (c.read_and_answer.ensures.write_fault.rose is)))

@@ -2,7 +2,8 @@ use Rattle.std.proofs.Common.{ℕ, List}
 use Rattle.gql_io.specs.Files.{Files}
 use Rattle.gql_tool.specs.Outcome.{Ways, AfterFile}
 use Rattle.gql_tool.specs.Local.{built, Answered}
-use Rattle.gql_tool.proofs.Files.{stops_at, goes_on, at_end, at_work, same_request}
+use Rattle.gql_tool.proofs.Files.{stops_at, goes_on, at_end, at_work, same_request, meets_of}
+use Rattle.gql_tool.proofs.Asked.{client_of}
 use Rattle.gql_tool.proofs.command.read_and_answer.Goals as goal
 
 -- what follows each file
@@ -18,30 +19,35 @@ after_schema tables document vars files s = AfterFile (files tables) tables (λ 
 pub returns-in_err-schema-clause-meets : goal.returns-in_err-schema-clause-meets
 returns-in_err-schema-clause-meets g c =
     at_end _ _ c.from_residual.result _ _ _ c.from_residual.ensures.1
-    (stops_at _ c.args.schema.now (after_schema c.args.tables.now c.args.document.now c.args.vars.now) _ _ _ c.in_err-schema.ensures.stops)
+    (stops_at _ c.args.words.now.schema.now (after_schema c.args.words.now.tables.now c.args.words.now.document.now c.args.words.now.vars.now) _ _ _ c.in_err-schema.ensures.stops)
 
 pub returns-in_err-tables-clause-meets : goal.returns-in_err-tables-clause-meets
 returns-in_err-tables-clause-meets g c =
     at_end _ _ c.from_residual-in_err-tables.result _ _ _ c.from_residual-in_err-tables.ensures.1
-    (goes_on _ _ c.args.schema.now c.in_ok-schema.schema (after_schema c.args.tables.now c.args.document.now c.args.vars.now) _ _ _ _ c.in_ok-schema.ensures.same c.in_ok-schema.ensures.found
+    (goes_on _ _ c.args.words.now.schema.now c.in_ok-schema.schema (after_schema c.args.words.now.tables.now c.args.words.now.document.now c.args.words.now.vars.now) _ _ _ _ c.in_ok-schema.ensures.same c.in_ok-schema.ensures.found
     c.in_ok-schema.ensures.within c.in_ok-schema.ensures.kept
-    (stops_at _ c.args.tables.now (after_tables c.args.document.now c.args.vars.now c.in_ok-schema.schema) _ _ _ c.in_err-tables.ensures.stops))
+    (stops_at _ c.args.words.now.tables.now (after_tables c.args.words.now.document.now c.args.words.now.vars.now c.in_ok-schema.schema) _ _ _ c.in_err-tables.ensures.stops))
 
 pub returns-in_err-document-clause-meets : goal.returns-in_err-document-clause-meets
 returns-in_err-document-clause-meets g c =
     at_end _ _ c.from_residual-in_err-document.result _ _ _ c.from_residual-in_err-document.ensures.1
-    (goes_on _ _ c.args.schema.now c.in_ok-schema.schema (after_schema c.args.tables.now c.args.document.now c.args.vars.now) _ _ _ _ c.in_ok-schema.ensures.same c.in_ok-schema.ensures.found
+    (goes_on _ _ c.args.words.now.schema.now c.in_ok-schema.schema (after_schema c.args.words.now.tables.now c.args.words.now.document.now c.args.words.now.vars.now) _ _ _ _ c.in_ok-schema.ensures.same c.in_ok-schema.ensures.found
     c.in_ok-schema.ensures.within c.in_ok-schema.ensures.kept
-    (goes_on _ _ c.args.tables.now c.in_ok-tables.tables (after_tables c.args.document.now c.args.vars.now c.in_ok-schema.schema) _ _ _ _ c.in_ok-tables.ensures.same c.in_ok-tables.ensures.found
+    (goes_on _ _ c.args.words.now.tables.now c.in_ok-tables.tables (after_tables c.args.words.now.document.now c.args.words.now.vars.now c.in_ok-schema.schema) _ _ _ _ c.in_ok-tables.ensures.same c.in_ok-tables.ensures.found
     c.in_ok-tables.ensures.within c.in_ok-tables.ensures.kept
-    (stops_at _ c.args.document.now (after_document c.args.vars.now c.in_ok-schema.schema c.in_ok-tables.tables) _ _ _ c.in_err-document.ensures.stops)))
+    (stops_at _ c.args.words.now.document.now (after_document c.args.words.now.vars.now c.in_ok-schema.schema c.in_ok-tables.tables) _ _ _ c.in_err-document.ensures.stops)))
 
 pub returns-clause-meets : goal.returns-clause-meets
 returns-clause-meets g c =
-    goes_on _ _ c.args.schema.now c.in_ok-schema.schema (after_schema c.args.tables.now c.args.document.now c.args.vars.now) _ _ _ _ c.in_ok-schema.ensures.same c.in_ok-schema.ensures.found
+    goes_on _ _ c.args.words.now.schema.now c.in_ok-schema.schema (after_schema c.args.words.now.tables.now c.args.words.now.document.now c.args.words.now.vars.now) _ _ _ _ c.in_ok-schema.ensures.same c.in_ok-schema.ensures.found
     c.in_ok-schema.ensures.within c.in_ok-schema.ensures.kept
-    (goes_on _ _ c.args.tables.now c.in_ok-tables.tables (after_tables c.args.document.now c.args.vars.now c.in_ok-schema.schema) _ _ _ _ c.in_ok-tables.ensures.same c.in_ok-tables.ensures.found
+    (goes_on _ _ c.args.words.now.tables.now c.in_ok-tables.tables (after_tables c.args.words.now.document.now c.args.words.now.vars.now c.in_ok-schema.schema) _ _ _ _ c.in_ok-tables.ensures.same c.in_ok-tables.ensures.found
     c.in_ok-tables.ensures.within c.in_ok-tables.ensures.kept
-    (goes_on _ _ c.args.document.now c.in_ok-document.document (after_document c.args.vars.now c.in_ok-schema.schema c.in_ok-tables.tables) _ _ _ _ c.in_ok-document.ensures.same c.in_ok-document.ensures.found
+    (goes_on _ _ c.args.words.now.document.now c.in_ok-document.document (after_document c.args.words.now.vars.now c.in_ok-schema.schema c.in_ok-tables.tables) _ _ _ _ c.in_ok-document.ensures.same c.in_ok-document.ensures.found
     c.in_ok-document.ensures.within c.in_ok-document.ensures.kept
-    (at_work _ _ _ _ _ (same_request c.args.vars.now _ _ _ c.in_ok-schema.schema c.in_ok-tables.tables c.in_ok-document.document _ _ _ c.as_slice.ensures c.as_slice-2.ensures c.as_slice-3.ensures c.answer.ensures.meets))))
+    (at_work _ _ _ _ _ (same_request c.args.words.now.vars.now _ _ _ c.in_ok-schema.schema c.in_ok-tables.tables c.in_ok-document.document _ _ _ c.as_slice.ensures c.as_slice-2.ensures c.as_slice-3.ensures (meets_of _ _ _ _ _ c.in_ok-request.ensures.request c.answer.ensures.meets)))))
+
+pub returns-clause-client : goal.returns-clause-client
+returns-clause-client g c =
+    client_of _ _ _ c.args.words.now.schema.now c.args.words.now.tables.now c.args.words.now.document.now c.args.words.now.vars.now c.in_ok-schema.schema c.in_ok-tables.tables c.in_ok-document.document _ _ _ _ c.args.words.now.cut _ _ _
+    c.in_ok-schema.ensures.same c.in_ok-tables.ensures.same c.in_ok-schema.ensures.found c.in_ok-tables.ensures.found c.in_ok-document.ensures.found c.as_slice.ensures c.as_slice-2.ensures c.as_slice-3.ensures c.in_ok-request.ensures.request c.answer.ensures.client

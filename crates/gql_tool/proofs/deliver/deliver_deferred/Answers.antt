@@ -1,45 +1,50 @@
-use Rattle.std.proofs.Common.{ℕ, List, true, false, subst}
-use Rattle.std.specs.Io.KnownBytes.{Appends}
-use Rattle.gql_tree.specs.PayloadText.{payload_text}
+use Rattle.std.proofs.Common.{◌≡◌, ap, ◌∙◌, subst, ◌∷◌, []}
+use Rattle.gql_tree.specs.declared.Payload.{Payload}
 use Rattle.gql_tree.specs.declared.Value.TheVariants as v
-use Rattle.gql_multipart.specs.Framed.{framed}
-use Rattle.gql_io.specs.Told.{AppendsPrefix, Puts}
-use Rattle.gql_io.proofs.Told.{Puts-after}
-use Rattle.gql_tool.specs.Hero.{announcing, completing}
-use Rattle.gql_tool.proofs.Sent.{Puts-front, Puts-stopped, frame-two}
+use Rattle.gql_tool.specs.Hero.{announcing, completing, completing_by, some_bubble, leaf_members}
+use Rattle.gql_tool.specs.Handed.{HandedAll}
+use Rattle.gql_tool.proofs.HandedAll.{HandedAll-none, HandedAll-first, HandedAll-between, HandedAll-two}
 use Rattle.gql_tool.proofs.deliver.deliver_deferred.Goals as goal
 
-pub returns-in_err-put-clause-sent : goal.returns-in_err-put-clause-sent
-returns-in_err-put-clause-sent g c =
-    let s = payload_text (announcing (v.Object c.args.run.members) c.args.run.faults c.args.label) in
-    let t = payload_text (completing c.args.person.now c.args.waiting.now) in
-    let old = g.O.Sink.sent c.args.output.now in
-    let new = g.O.Sink.sent c.put.new.output in
-    let r = c.from_residual-in_err-put.result in
-    subst (λ (bytes : List ℕ). Puts old new bytes r) (frame-two s t)
-    (Puts-front old new (framed true false s) (framed false true t) r c.from_residual-in_err-put.ensures.0
-    (subst (AppendsPrefix old new) c.in_ok-piece.ensures c.in_err-put.ensures.sent))
+pub returns-in_err-hand_out-clause-handed : goal.returns-in_err-hand_out-clause-handed
+returns-in_err-hand_out-clause-handed g c =
+    let q = completing c.args.person.now c.args.deferred.now.leaves in
+    subst (λ (p : Payload). HandedAll (p ∷ q ∷ []) c.args.cut (g.O.Sink.sent c.args.output.now) (g.O.Sink.sent c.hand_out.new.output) c.args.client.now c.hand_out.new.client c.from_residual-in_err-hand_out.result)
+    (c.in_ok-first.ensures ∙ ap (announcing (v.Object c.args.run.members) c.args.run.faults) c.in_ok-label.ensures)
+    (HandedAll-first c.in_ok-first.first q c.args.cut _ _ _ _ _ _ c.from_residual-in_err-hand_out.ensures.1 c.in_err-hand_out.ensures.handed)
 
-pub returns-in_err-rest-clause-sent : goal.returns-in_err-rest-clause-sent
-returns-in_err-rest-clause-sent g c =
-    let s = payload_text (announcing (v.Object c.args.run.members) c.args.run.faults c.args.label) in
-    let t = payload_text (completing c.args.person.now c.args.waiting.now) in
-    let old = g.O.Sink.sent c.args.output.now in
-    let new = g.O.Sink.sent c.put.new.output in
-    let r = c.from_residual-in_err-rest.result in
-    subst (λ (bytes : List ℕ). Puts old new bytes r) (frame-two s t)
-    (Puts-stopped old new (framed true false s) (framed false true t) r c.from_residual-in_err-rest.ensures.0
-    (subst (Appends old new) c.in_ok-piece.ensures c.in_ok-put.ensures.sent))
+pub returns-in_err-leaves-clause-handed : goal.returns-in_err-leaves-clause-handed
+returns-in_err-leaves-clause-handed g c =
+    let q = completing c.args.person.now c.args.deferred.now.leaves in
+    subst (λ (p : Payload). HandedAll (p ∷ q ∷ []) c.args.cut (g.O.Sink.sent c.args.output.now) (g.O.Sink.sent c.hand_out.new.output) c.args.client.now c.hand_out.new.client c.from_residual-in_err-leaves.result)
+    (c.in_ok-first.ensures ∙ ap (announcing (v.Object c.args.run.members) c.args.run.faults) c.in_ok-label.ensures)
+    (HandedAll-between c.in_ok-first.first q c.args.cut _ _ _ _ c.in_ok-hand_out.ensures.handed _ c.from_residual-in_err-leaves.ensures.1)
 
-pub returns-clause-sent : goal.returns-clause-sent
-returns-clause-sent g c =
-    let s = payload_text (announcing (v.Object c.args.run.members) c.args.run.faults c.args.label) in
-    let t = payload_text (completing c.args.person.now c.args.waiting.now) in
-    let old = g.O.Sink.sent c.args.output.now in
-    let between = g.O.Sink.sent c.put.new.output in
-    let new = g.O.Sink.sent c.put-2.new.output in
-    let r = c.put-2.result in
-    subst (λ (bytes : List ℕ). Puts old new bytes r) (frame-two s t)
-    (Puts-after old between new (framed true false s) (framed false true t) r
-    (subst (Appends old between) c.in_ok-piece.ensures c.in_ok-put.ensures.sent)
-    (subst (λ (bytes : List ℕ). Puts between new bytes r) c.in_ok-rest.ensures c.put-2.ensures.sent))
+pub returns-in_err-last-clause-handed : goal.returns-in_err-last-clause-handed
+returns-in_err-last-clause-handed g c =
+    let q = completing c.args.person.now c.args.deferred.now.leaves in
+    subst (λ (p : Payload). HandedAll (p ∷ q ∷ []) c.args.cut (g.O.Sink.sent c.args.output.now) (g.O.Sink.sent c.hand_out.new.output) c.args.client.now c.hand_out.new.client c.from_residual-in_err-last.result)
+    (c.in_ok-first.ensures ∙ ap (announcing (v.Object c.args.run.members) c.args.run.faults) c.in_ok-label.ensures)
+    (HandedAll-between c.in_ok-first.first q c.args.cut _ _ _ _ c.in_ok-hand_out.ensures.handed _ c.from_residual-in_err-last.ensures.1)
+
+pub returns-clause-handed : goal.returns-clause-handed
+returns-clause-handed g c =
+    let person = c.args.person.now in
+    let waiting = c.args.deferred.now.leaves in
+    let run = c.in_ok-leaves.leaves in
+    let first : c.in_ok-first.first ≡ announcing (v.Object c.args.run.members) c.args.run.faults c.args.deferred.now.label =
+    c.in_ok-first.ensures ∙ ap (announcing (v.Object c.args.run.members) c.args.run.faults) c.in_ok-label.ensures in
+    let last : c.in_ok-last.last ≡ completing person waiting =
+    c.in_ok-last.ensures
+    ∙ (ap (λ b. completing_by b (v.Object run.members) run.faults) c.in_ok-leaves.ensures.bubbled
+    ∙ (ap (λ ms. completing_by (some_bubble person waiting) (v.Object ms) run.faults) c.in_ok-leaves.ensures.members
+    ∙ ap (completing_by (some_bubble person waiting) (v.Object (leaf_members person waiting))) c.in_ok-leaves.ensures.faults)) in
+    subst (λ (p : Payload). HandedAll (p ∷ completing person waiting ∷ []) c.args.cut (g.O.Sink.sent c.args.output.now) (g.O.Sink.sent c.hand_out-2.new.output) c.args.client.now c.hand_out-2.new.client c.hand_out-2.result) first
+    (subst (λ (q : Payload). HandedAll (c.in_ok-first.first ∷ q ∷ []) c.args.cut (g.O.Sink.sent c.args.output.now) (g.O.Sink.sent c.hand_out-2.new.output) c.args.client.now c.hand_out-2.new.client c.hand_out-2.result) last
+    (HandedAll-two c.in_ok-first.first c.in_ok-last.last c.args.cut _ _ _ _ c.in_ok-hand_out.ensures.handed _ _ _ c.hand_out-2.ensures.handed))
+
+pub returns-in_err-label-clause-handed : goal.returns-in_err-label-clause-handed
+returns-in_err-label-clause-handed g c = HandedAll-none (announcing (v.Object c.args.run.members) c.args.run.faults c.args.deferred.now.label) (completing c.args.person.now c.args.deferred.now.leaves ∷ []) c.args.cut (g.O.Sink.sent c.args.output.now) c.args.client.now _ c.from_residual.ensures.1
+
+pub returns-in_err-first-clause-handed : goal.returns-in_err-first-clause-handed
+returns-in_err-first-clause-handed g c = HandedAll-none (announcing (v.Object c.args.run.members) c.args.run.faults c.args.deferred.now.label) (completing c.args.person.now c.args.deferred.now.leaves ∷ []) c.args.cut (g.O.Sink.sent c.args.output.now) c.args.client.now _ c.from_residual-in_err-first.ensures.1

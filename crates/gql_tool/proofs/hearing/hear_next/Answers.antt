@@ -1,5 +1,5 @@
-use Rattle.std.proofs.Common.{◌≡◌, ◌∙◌, ap, arith, ℕ, ◌++◌, length, take, drop, length-append}
-use Rattle.std.proofs.lemmas.List.{length-take, length-drop}
+use Rattle.std.proofs.Common.{arith, ℕ, ◌++◌, take, drop, length-append}
+use Rattle.std.proofs.lemmas.List.{length-take}
 use Rattle.gql_tool.proofs.Replays.{consumed, cut_again, EndsAt-refused, longer, err_by}
 use Rattle.gql_tool.proofs.hearing.hear_next.Goals as goal
 

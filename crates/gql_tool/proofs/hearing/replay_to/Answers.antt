@@ -1,8 +1,5 @@
-use Rattle.std.proofs.Common.{◌≡◌, ◌∙◌, sym, subst, List, ℕ}
-use Rattle.gql_tool.specs.Heard.{Stands}
-use Rattle.gql_tool.specs.Hearing.{EndsAt, heard_of}
-use Rattle.gql_tool.specs.declared.hearing.Hearing.{Hearing}
-use Rattle.gql_tool.specs.declared.hearing.Hearing.TheVariants.{Ended, Refused, TooLong}
+use Rattle.std.proofs.Common.{subst}
+use Rattle.gql_tool.specs.Hearing.{EndsAt}
 use Rattle.gql_tool.proofs.Replays.{Meets-front, Meets-budget, Meets-all}
 use Rattle.gql_tool.proofs.hearing.replay_to.Goals as goal
 

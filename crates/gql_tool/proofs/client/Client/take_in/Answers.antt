@@ -1,5 +1,4 @@
-use Rattle.std.proofs.Common.{◌≡◌, ◌∙◌, ap, refl, Ok, Result, Bool, true, false, [], ◌∷◌, ◌++◌}
-use Rattle.gql_tool.specs.declared.client.Stop.{Stop}
+use Rattle.std.proofs.Common.{◌∙◌, refl, true, false, [], ◌∷◌, ◌++◌}
 use Rattle.gql_tool.specs.declared.client.Stop.TheVariants.{Refused}
 use Rattle.gql_tool.specs.Heard.{heard}
 use Rattle.gql_tool.proofs.Clients.{Took-fed, handed_on, ok_of}

@@ -1,0 +1,37 @@
+-- The request that the files are, and the client in the end.
+use Rattle.std.proofs.Common.{◌≡◌, sym, ◌∙◌, subst, ℕ, List, Option, None, Some, inl, inr}
+use Rattle.gql_io.specs.Files.{Files}
+use Rattle.gql_tool.specs.declared.status.Status.{Status}
+use Rattle.gql_tool.specs.declared.status.Status.TheVariants.{Done, WriteFault, NoMemory, StreamRefused}
+use Rattle.gql_tool.specs.declared.document.HeroDocument.{HeroDocument}
+use Rattle.gql_tool.specs.declared.tables.HeroTables.{HeroTables}
+use Rattle.gql_tool.specs.declared.client.Client.{Client}
+use Rattle.gql_tool.specs.Local.{built}
+use Rattle.gql_tool.specs.LocalClient.{Asks, ClientEnds}
+use Rattle.gql_tool.specs.Meets.{Finds}
+
+-- what is said of the requests that are asked
+pub ends_as : (A B : HeroTables → HeroDocument → Type 0) (cut : ℕ) (old new : Client) (status : Status) → ((t : HeroTables) (d : HeroDocument) → A t d → B t d) → ClientEnds A cut old new status → ClientEnds B cut old new status
+ends_as A B cut old new Done also (t, d, asked, took) = (t, d, also t d asked, took)
+ends_as A B cut old new WriteFault also (inl same) = inl same
+ends_as A B cut old new WriteFault also (inr (t, d, asked, took)) = inr (t, d, also t d asked, took)
+ends_as A B cut old new StreamRefused also (t, d, asked, refused) = (t, d, also t d asked, refused)
+ends_as A B cut old new NoMemory also ends = tt
+ends_as A B cut old new _ also ends = ends
+
+-- the three files that were found
+asks : (told : Option Files) (schema tables document vars s b c : List ℕ) (t : HeroTables) (d : HeroDocument) → Finds told schema s → Finds told tables b → Finds told document c → built vars s b c ≡ Some (t, d)
+    → Asks told schema tables document vars t d
+asks None schema tables document vars s b c t d has_s has_b has_c is = tt
+asks (Some files) schema tables document vars s b c t d has_s has_b has_c is = (s, b, c, has_s, has_b, has_c, is)
+
+pub client_of : (told second third : Option Files) (schema tables document vars s b c x y z : List ℕ) (request : Option (HeroTables × HeroDocument)) (cut : ℕ) (old new : Client) (status : Status)
+    → second ≡ told → third ≡ second → Finds told schema s → Finds second tables b → Finds third document c → x ≡ s → y ≡ b → z ≡ c → request ≡ built vars x y z
+    → ClientEnds (λ t d. request ≡ Some (t, d)) cut old new status → ClientEnds (Asks told schema tables document vars) cut old new status
+client_of told second third schema tables document vars s b c x y z request cut old new status is_second is_third has_s has_b has_c is_s is_b is_c is ends =
+    let here : (f : Option Files) → f ≡ told → (name bytes : List ℕ) → Finds f name bytes → Finds told name bytes = λ f same name bytes has. subst (λ (o : Option Files). Finds o name bytes) same has in
+    ends_as (λ t d. request ≡ Some (t, d)) (Asks told schema tables document vars) cut old new status
+    (λ t d asked.
+    (let same : built vars s b c ≡ built vars x y z = λ i. built vars (sym is_s i) (sym is_b i) (sym is_c i) in
+    asks told schema tables document vars s b c t d has_s (here second is_second tables b has_b) (here third (is_third ∙ is_second) document c has_c) (same ∙ (sym is ∙ asked))))
+    ends

@@ -1,0 +1,70 @@
+-- A document of heroes has a defined response.
+use Rattle.std.proofs.Common.{◌≡◌, refl, sym, subst, ℕ, ◌+◌, length, List, [], ◌∷◌, ◌++◌, Bool, true, false, Option, Some, None}
+use Rattle.std.specs.Prelude.{slice_get}
+use Rattle.gql_tree.specs.declared.Spot.{Spot}
+use Rattle.gql_tree.specs.declared.Fault.{Fault}
+use Rattle.gql_tree.specs.declared.Value.TheVariants as v
+use Rattle.gql_tree.specs.declared.Outcome.TheVariants.{Good}
+use Rattle.gql_tree.specs.Forest.{Forest, grown, none}
+use Rattle.gql_model.specs.Complete.{fault_at}
+use Rattle.gql_model.specs.Operations.{forest}
+use Rattle.gql_merge.proofs.Responses.{HasResponse, alone_response, united_response, failed_response}
+use Rattle.gql_tool.specs.declared.document.Leaf.{Leaf}
+use Rattle.gql_tool.specs.declared.document.Deferred.{Deferred}
+use Rattle.gql_tool.specs.declared.document.HeroDocument.{HeroDocument}
+use Rattle.gql_tool.specs.declared.tables.Person.{Person}
+use Rattle.gql_tool.specs.declared.tables.HeroTables.{HeroTables}
+use Rattle.gql_tool.specs.declared.tables.HeroCell.{HeroCell}
+use Rattle.gql_tool.specs.declared.tables.HeroCell.TheVariants as hero_cells
+use Rattle.gql_tool.specs.Operation.{nodes_of}
+use Rattle.gql_tool.specs.Service.{service, query}
+use Rattle.gql_tool.specs.Hero.{hero_path, hero_object, leaf_members, leaf_faults, some_bubble, EachOnce, RefStands}
+use Rattle.gql_tool.proofs.HeroFields.{leaf_details}
+use Rattle.gql_tool.proofs.HeroMet.{document, fragment_id}
+use Rattle.gql_tool.proofs.HeroRegion.{person}
+use Rattle.gql_tool.proofs.HeroPayloads.{null_region}
+use Rattle.gql_tool.proofs.HeroFlat.{NamesApart-leaves}
+use Rattle.gql_tool.proofs.HeroForests.{first, waiting, forest_by, forest-person, forest-null, forest-error, person_at}
+use Rattle.gql_tool.proofs.HeroUnion.{hero_union}
+
+module _ (t : HeroTables) (spot hero : Spot) (leaves : List Leaf) (n : ℕ) (p : Person) (is : slice_get t.persons n ≡ Some p) where
+  abbrev of : Bool → Option Deferred → Forest
+  of = forest_by t spot hero leaves n p is
+
+  -- the forest of deferred leaves, by whether they bubble
+  abbrev forest_with : Option (List ℕ) → Spot → Bool → List Leaf → Forest
+  forest_with label at b ls = grown (first t spot hero leaves n p is false (Some (record { label = label; spot = at; leaves = ls }))) (waiting t spot hero leaves n p is b ls)
+
+  -- deferred leaves that bubble, or are united with the first ones
+  waiting_by : (label : Option (List ℕ)) (at : Spot) (l : Leaf) (ls : List Leaf) (b : Bool) → (let o : Option Deferred = Some (record { label = label; spot = at; leaves = l ∷ ls }) in EachOnce (document spot hero leaves o) → some_bubble p (l ∷ ls) ≡ b → HasResponse (of false o))
+  waiting_by label at l ls b once e = by b e
+    where
+      by : (b : Bool) → some_bubble p (l ∷ ls) ≡ b → HasResponse (of false (Some (record { label = label; spot = at; leaves = l ∷ ls })))
+      by true e = subst (λ (c : Bool). HasResponse (forest_with label at c (l ∷ ls))) (sym e) (failed_response (hero_object (v.Object (leaf_members p leaves))) (leaf_faults p leaves) (fragment_id (length leaves)) label (person n) (leaf_details (2 + length leaves + 1) (Some (fragment_id (length leaves))) (l ∷ ls)) (leaf_faults p (l ∷ ls)))
+      by false e =
+          subst (λ (c : Bool). HasResponse (forest_with label at c (l ∷ ls))) (sym e)
+          (united_response (hero_object (v.Object (leaf_members p leaves))) (leaf_faults p leaves) (fragment_id (length leaves)) label (person n) (leaf_details (2 + length leaves + 1) (Some (fragment_id (length leaves))) (l ∷ ls)) (leaf_faults p (l ∷ ls))
+          (v.Object (leaf_members p (l ∷ ls))) (hero_object (v.Object (leaf_members p leaves ++ leaf_members p (l ∷ ls))))
+          (hero_union (leaf_members p leaves) (leaf_members p (l ∷ ls)) (NamesApart-leaves p leaves (l ∷ ls) once)))
+
+  response_by : (b : Bool) (o : Option Deferred) → EachOnce (document spot hero leaves o) → HasResponse (of b o)
+  response_by true o once = alone_response _ _ _
+  response_by false None once = alone_response _ _ _
+  response_by false (Some def) once = by def.leaves once
+    where
+      by : (ls : List Leaf) → (let o : Option Deferred = Some (record { label = def.label; spot = def.spot; leaves = ls }) in EachOnce (document spot hero leaves o) → HasResponse (of false o))
+      by [] once = alone_response _ _ _
+      by (l ∷ ls) once = waiting_by def.label def.spot l ls (some_bubble p (l ∷ ls)) once refl
+
+alone : (f : Forest) (fs : List Fault) → f ≡ grown (null_region fs) none → HasResponse f
+alone f fs is = subst HasResponse (sym is) (alone_response (Good (hero_object v.Null)) fs [])
+
+response_cell : (t : HeroTables) (d : HeroDocument) (c : HeroCell) → t.hero ≡ c → EachOnce d → RefStands t → HasResponse (forest (service t) (nodes_of d) query)
+response_cell t d hero_cells.Null is once there = alone _ [] (forest-null t d is)
+response_cell t d (hero_cells.Error m) is once there = alone _ (fault_at d.hero m hero_path ∷ []) (forest-error t d m is)
+response_cell t d (hero_cells.Ref n) is once there =
+    let found = person_at t.persons n (there n is) in
+    subst HasResponse (sym (forest-person t d n found.0 found.1 is once)) (response_by t d.spot d.hero d.leaves n found.0 found.1 (some_bubble found.0 d.leaves) d.deferred once)
+
+pub hero_has_a_response : (t : HeroTables) (d : HeroDocument) → EachOnce d → RefStands t → HasResponse (forest (service t) (nodes_of d) query)
+hero_has_a_response t d = response_cell t d t.hero refl

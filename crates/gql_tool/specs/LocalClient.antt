@@ -1,0 +1,72 @@
+-- The client that the command `local` feeds: what it was, and what it is in the end.
+use Rattle.std.specs.Prelude.{◌≡◌, ◌⊎◌, ℕ, ◌+◌, ◌-◌, ◌/◌, true, List, ◌++◌, length, sum_by, Option, None, Some, codes}
+use Rattle.gql_multipart.specs.Framed.{pieces_of}
+use Rattle.gql_io.specs.Files.{Files}
+use Rattle.gql_tool.specs.declared.status.Status.{Status}
+use Rattle.gql_tool.specs.declared.status.Status.TheVariants.{Done, WriteFault, NoMemory, StreamRefused}
+use Rattle.gql_tool.specs.declared.document.HeroDocument.{HeroDocument}
+use Rattle.gql_tool.specs.declared.tables.HeroTables.{HeroTables}
+use Rattle.gql_tool.specs.declared.client.Client.{Client}
+use Rattle.gql_tool.specs.Client.{counted}
+use Rattle.gql_tool.specs.Heard.{Stands, nothing_heard, IsRefused}
+use Rattle.gql_tool.specs.Local.{built, body, texts}
+use Rattle.gql_tool.specs.Words.{Form, LocalForm}
+
+-- the boundary of the bodies that are written
+abbrev pub dash : List ℕ
+dash = codes "-"
+
+-- as it is made for this boundary: it was fed nothing
+pub record IsNew (c : Client) : Type 0 where
+  pub stands : Stands c (nothing_heard dash)
+  pub uncut : c.cuts ≡ 0
+
+-- the client took these bytes, and goes on
+abbrev pub StandsFor : Client → List ℕ → Type 0
+StandsFor c bytes = Stands c (record { boundary = dash; bytes = bytes })
+
+-- how many cuts of at most so many bytes a piece has
+abbrev pub cuts_in : ℕ → List ℕ → ℕ
+cuts_in cut piece = (length piece + (cut - 1)) / cut
+
+-- each piece is cut by itself
+abbrev pub cuts_of : ℕ → List (List ℕ) → ℕ
+cuts_of cut texts = sum_by (cuts_in cut) (pieces_of true texts)
+
+-- the request that the files are, as far as the shelf tells
+abbrev pub Asks : Option Files → (schema tables document vars : List ℕ) → HeroTables → HeroDocument → Type 0
+Asks None schema tables document vars t d = Unit {0}
+Asks (Some files) schema tables document vars t d = (s b c : List ℕ) × (files schema ≡ Some s) × (files tables ≡ Some b) × (files document ≡ Some c) × (built vars s b c ≡ Some (t, d))
+
+-- it was fed the body in cuts, and took all of it
+pub record TookBody (t : HeroTables) (d : HeroDocument) (cut : ℕ) (c : Client) : Type 0 where
+  pub stands : StandsFor c (body t d)
+  pub cuts : c.cuts ≡ counted (cuts_of cut (texts t d))
+
+-- it took a front of the body
+pub record TookFront (t : HeroTables) (d : HeroDocument) (c : Client) : Type 0 where
+  pub front : List ℕ
+  pub back : List ℕ
+  pub cut : body t d ≡ front ++ back
+  pub stands : StandsFor c front
+
+-- it refused in the body
+pub record RefusedBody (t : HeroTables) (d : HeroDocument) (c : Client) : Type 0 where
+  pub front : List ℕ
+  pub back : List ℕ
+  pub cut : body t d ≡ front ++ back
+  pub refused : IsRefused c dash front
+
+-- What the client is by the status: at the end it stands for the body, and in a fault of the output for a front of it.
+-- Where nothing was executed it is what it was. Want of memory alone is free.
+abbrev pub ClientEnds : ((t : HeroTables) (d : HeroDocument) → Type 0) → ℕ → Client → Client → Status → Type 0
+ClientEnds Asked cut old new Done = (t : HeroTables) × (d : HeroDocument) × Asked t d × TookBody t d cut new
+ClientEnds Asked cut old new WriteFault = (new ≡ old) ⊎ ((t : HeroTables) × (d : HeroDocument) × Asked t d × TookFront t d new)
+ClientEnds Asked cut old new StreamRefused = (t : HeroTables) × (d : HeroDocument) × Asked t d × RefusedBody t d new
+ClientEnds Asked cut old new NoMemory = Unit {0}
+ClientEnds Asked cut old new _ = new ≡ old
+
+-- every other command leaves it unchanged
+abbrev pub ClientOf : Option Files → Option Form → Client → Client → Status → Type 0
+ClientOf told (Some (LocalForm schema tables document vars workers cut)) old new status = ClientEnds (Asks told schema tables document vars) cut old new status
+ClientOf told _ old new status = new ≡ old

@@ -1,0 +1,28 @@
+//! Laws of the requests that are built.
+
+ghost use Rattle.std.specs.Prelude.{◌≡◌, ℕ, List, [], Some};
+ghost use Rattle.gql_tree.specs.declared.Value.{Value};
+ghost use Rattle.gql_tree.specs.declared.Fault.{Fault};
+ghost use Rattle.gql_tree.specs.FirstPayloads.{value_of};
+ghost use Rattle.gql_tree.specs.Same.{SameFlat};
+ghost use Rattle.gql_tree.specs.Merged.{IsMerged};
+ghost use Rattle.gql_model.specs.Plain.{plain, kept};
+ghost use Rattle.gql_tool.specs.declared.document.HeroDocument.{HeroDocument};
+ghost use Rattle.gql_tool.specs.declared.tables.HeroTables.{HeroTables};
+ghost use Rattle.gql_tool.specs.Local.{built, regions};
+ghost use Rattle.gql_tool.specs.Operation.{nodes_of};
+ghost use Rattle.gql_tool.specs.Service.{service, query};
+
+/// Where no deferred piece of a request fails, what a client has in the end is the response of plain
+/// execution, in which `@defer` is taken as absent: the same data, and of the errors those at places that
+/// stand in it.
+pub fn a_response_without_failures_is_plain()
+    ensures data { (vars schema tables document : List ℕ) (t : HeroTables) (d : HeroDocument) (value : Value) (faults : List Fault)
+        → built vars schema tables document ≡ Some (t, d)
+        → IsMerged (regions t d) value faults []
+        → SameFlat value (value_of (plain (service t) (nodes_of d) query).outcome) }
+    ensures errors { (vars schema tables document : List ℕ) (t : HeroTables) (d : HeroDocument) (value : Value) (faults : List Fault)
+        → built vars schema tables document ≡ Some (t, d)
+        → IsMerged (regions t d) value faults []
+        → (let r = plain (service t) (nodes_of d) query in kept value faults ≡ kept (value_of r.outcome) r.faults) }
+{}
