@@ -2,6 +2,9 @@ pub mod Contents
 pub mod Members
 pub mod Plain
 pub mod Line
+pub mod Utf8
+pub mod Utf8Content
+pub mod Utf8Read
 pub mod Printed
 pub mod Orderly
 pub mod Back
