@@ -24,6 +24,7 @@ mod HeroRegion
 mod HeroResponses
 pub mod HeroSound
 mod HeroUnion
+mod HeroWritten
 mod Ids
 mod Judged
 mod Kept
@@ -36,6 +37,7 @@ mod Rows
 mod Sent
 mod ServedBodies
 pub mod Spots
+mod TableTexts
 mod Texts
 mod Tokens
 mod Understood

@@ -23,12 +23,13 @@ use Rattle.gql_tool.specs.Meets.{Meets, IsEndOfBody, IsComplete, Ready}
 use Rattle.gql_tool.specs.Words.{Form, ReplayForm}
 use Rattle.gql_io.specs.Files.{Files}
 use Rattle.gql_tool.specs.Replay.{HeardWays}
-use Rattle.gql_tool.specs.Served.{IsReadBack, IsBodyOf, IsServed, MergedWay}
+use Rattle.gql_tool.specs.Served.{IsBodyOf, IsServed, MergedWay}
 use Rattle.gql_tool.proofs.Files.{Meets-more}
 use Rattle.gql_tool.proofs.Bodies.{payload_lines, all_framable}
 use Rattle.gql_tool.proofs.Executed.{IsReadable, all_readable, merges_all, refuses_none, line_merged}
 use Rattle.gql_tool.proofs.HeroForests.{hero_is_lone}
 use Rattle.gql_tool.proofs.HeroSound.{hero_payloads_make_sense, hero_payloads_are_shallow}
+use Rattle.gql_tool.proofs.HeroWritten.{IsReadBack, hero_payloads_are_read_back}
 use Rattle.gql_tool.proofs.Reading.{built-once, built-stands}
 use Rattle.gql_tool.proofs.Spots.{built-placed}
 
@@ -55,17 +56,20 @@ module _ (t : HeroTables) (d : HeroDocument) (boundary input : List ℕ) (h : Is
   placed : IsPlaced d
   placed = built-placed h.vars h.schema h.tables h.document t d h.request
 
+  written : Each IsReadBack payloads
+  written = hero_payloads_are_read_back h.vars h.schema h.tables h.document t d h.request
+
   readable : Each IsReadable payloads
   readable = all_readable payloads (hero_payloads_make_sense t d once stands placed) (hero_payloads_are_shallow t d once stands)
 
   merged : (s : State) → Merges boundary input s → HasMerged (regions t d) s
   merged s merges =
-      merges_all (regions t d) (hero_is_lone t d once stands) first later refl readable (all_written payloads h.written) h.fit s
+      merges_all (regions t d) (hero_is_lone t d once stands) first later refl readable (all_written payloads written) h.fit s
       (subst (λ (b : List ℕ). Merges b (body t d) s) h.is_dash (subst (λ (bytes : List ℕ). Merges boundary bytes s) h.is_body merges))
 
   not_refused : (front back : List ℕ) → input ≡ front ++ back → (s : State) (why : List ℕ) → Refuses boundary front s why → ⊥
   not_refused front back cut s why refuses =
-      refuses_none (regions t d) (hero_is_lone t d once stands) first later refl payloads [] (sym (append-nil payloads)) readable (all_written payloads h.written) first later refl h.fit
+      refuses_none (regions t d) (hero_is_lone t d once stands) first later refl payloads [] (sym (append-nil payloads)) readable (all_written payloads written) first later refl h.fit
       front back (sym cut ∙ h.is_body) s why (subst (λ (b : List ℕ). Refuses b front s why) h.is_dash refuses)
 
   is_whole : (contents : List (List ℕ)) × Body boundary input contents

@@ -1,11 +1,6 @@
 -- An input of `replay` that is the body which `local` writes for a request.
 use Rattle.std.specs.Prelude.{◌≡◌, ℕ, ◌≤◌, List, length, Option, Some, None}
 use Rattle.std.specs.List.{AllByRecursion as Each}
-use Rattle.gql_tree.specs.declared.Payload.{Payload}
-use Rattle.gql_tree.specs.FirstPayloads.{first_payloads}
-use Rattle.gql_tree.specs.PayloadText.{payload_text}
-use Rattle.gql_tree.specs.Sound.{SamePayload}
-use Rattle.gql_payload.specs.Reading.{Decodes}
 use Rattle.gql_tool.specs.declared.status.Status.TheVariants.{Done}
 use Rattle.gql_tool.specs.declared.document.HeroDocument.{HeroDocument}
 use Rattle.gql_tool.specs.declared.tables.HeroTables.{HeroTables}
@@ -14,10 +9,6 @@ use Rattle.gql_tool.specs.Local.{built, regions, texts, body, Fits, IsMergedLine
 use Rattle.gql_tool.specs.LocalClient.{dash}
 use Rattle.gql_tool.specs.Replay.{budget}
 
--- a payload whose text is read as the same payload, as what was encoded is
-abbrev pub IsReadBack : Payload → Type 0
-IsReadBack p = (again : Payload) × Decodes (payload_text p) again × SamePayload p again
-
 -- the whole body of a request that is built: no text is longer than a part may be, and all of it is heard
 pub record IsBodyOf (t : HeroTables) (d : HeroDocument) (boundary input : List ℕ) : Type 0 where
   pub vars : List ℕ
@@ -25,7 +16,6 @@ pub record IsBodyOf (t : HeroTables) (d : HeroDocument) (boundary input : List �
   pub tables : List ℕ
   pub document : List ℕ
   pub request : built vars schema tables document ≡ Some (t, d)
-  pub written : Each IsReadBack (first_payloads (regions t d))
   pub fit : Each Fits (texts t d)
   pub within : length input ≤ budget
   pub is_dash : boundary ≡ dash
