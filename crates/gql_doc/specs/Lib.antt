@@ -1,1 +1,6 @@
 pub mod StringValue
+pub mod Phrase
+pub mod Marks
+pub mod Grammar
+pub mod Nesting
+pub mod Answer

@@ -4,9 +4,13 @@
 #![tactic(auto)]
 
 mod block_string;
+mod parsing;
 mod quoted_string;
+mod refusal;
 mod string_token;
 #[cfg(test)]
 mod tests;
 
+pub use parsing::parse;
+pub use refusal::ParseRefusal;
 pub use string_token::string_value;
