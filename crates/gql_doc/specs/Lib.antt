@@ -4,3 +4,5 @@ pub mod Marks
 pub mod Grammar
 pub mod Nesting
 pub mod Answer
+pub mod Reading
+pub mod Left

@@ -1,34 +1,44 @@
 -- What a token is to the grammar.
-use Rattle.std.specs.Prelude.{ℕ, ◌==◌, nat_eq, ◌||◌, ◌&&◌, not, Bool, List, [], ◌∷◌, codes}
+use Rattle.std.specs.Prelude.{ℕ, ◌==◌, nat_eq, ◌||◌, ◌&&◌, not, Bool, true, false, List, [], ◌∷◌, codes}
 use Rattle.std.specs.Str.{bytes_eq}
 use Rattle.gql_lex.specs.Tokens.{Lexeme}
 use Rattle.gql_lex.specs.declared.token.TokenKind.{TokenKind}
 use Rattle.gql_lex.specs.declared.token.TokenKind.TheVariants as kind
 
--- A number for each class of tokens: a punctuator's first byte, which no other punctuator begins with; 0 for a name, 1 for
--- a number, 2 for a string of either form.
-abbrev pub class_of : TokenKind → List ℕ → ℕ
-class_of kind.Punctuator [] = 3
-class_of kind.Punctuator (byte ∷ rest) = byte
-class_of kind.Name text = 0
-class_of kind.Int text = 1
-class_of kind.Quoted text = 2
-class_of kind.Block text = 2
-
-abbrev pub class : Lexeme → ℕ
-class token = class_of token.kind token.text
+-- a punctuator that begins with this byte; no other one begins with it
+abbrev pub is_mark_of : TokenKind → List ℕ → ℕ → Bool
+is_mark_of kind.Punctuator (first ∷ rest) byte = first == byte
+is_mark_of kind.Punctuator [] byte = false
+is_mark_of kind.Name text byte = false
+is_mark_of kind.Int text byte = false
+is_mark_of kind.Quoted text byte = false
+is_mark_of kind.Block text byte = false
 
 abbrev pub is_mark : ℕ → Lexeme → Bool
-is_mark byte token = class token == byte
+is_mark byte token = is_mark_of token.kind token.text byte
+
+abbrev pub is_name_kind : TokenKind → Bool
+is_name_kind kind.Name = true
+is_name_kind _ = false
 
 abbrev pub is_name : Lexeme → Bool
-is_name token = class token == 0
+is_name token = is_name_kind token.kind
+
+abbrev pub is_number_kind : TokenKind → Bool
+is_number_kind kind.Int = true
+is_number_kind _ = false
 
 abbrev pub is_number : Lexeme → Bool
-is_number token = class token == 1
+is_number token = is_number_kind token.kind
+
+-- a string of either form
+abbrev pub is_string_kind : TokenKind → Bool
+is_string_kind kind.Quoted = true
+is_string_kind kind.Block = true
+is_string_kind _ = false
 
 abbrev pub is_string : Lexeme → Bool
-is_string token = class token == 2
+is_string token = is_string_kind token.kind
 
 -- a name of these bytes
 abbrev pub is_word : List ℕ → Lexeme → Bool

@@ -4,10 +4,16 @@
 #![tactic(auto)]
 
 mod block_string;
+mod definitions;
+mod marks;
+mod parser;
 mod parsing;
 mod quoted_string;
 mod refusal;
+mod selections;
 mod string_token;
+mod values;
+mod variables;
 #[cfg(test)]
 mod tests;
 

@@ -1,0 +1,493 @@
+-- The parser's readers read the productions of the grammar, and stop where no document goes on.
+use Rattle.std.proofs.Common.{◌≡◌, ◌⊎◌, inl, inr, ℕ, zero, suc, Bool, true, false, ◌||◌, ◌&&◌, not, List, [], ◌∷◌, ◌++◌, Option, Some, None, refl, sym, ap, subst, ◌∙◌, codes}
+use Rattle.std.proofs.lemmas.Bool.{eq-eqb}
+use Rattle.gql_tree.specs.declared.delivery.Spot.{Spot}
+use Rattle.gql_lex.specs.Tokens.{Lexeme}
+use Rattle.gql_lex.specs.declared.token.TokenKind.{TokenKind}
+use Rattle.gql_lex.specs.declared.token.TokenKind.TheVariants as kind
+use Rattle.gql_doc.specs.Phrase.{Phrase, token, returns, either, never}
+use Rattle.gql_doc.specs.Phrase as phrase
+use Rattle.gql_doc.specs.Grammar as grammar
+use Rattle.gql_doc.specs.Reading.{Reader, gives, next_is, take, pick, shut}
+use Rattle.gql_doc.specs.Reading as reading
+use Rattle.gql_doc.specs.StringValue.{string_value}
+use Rattle.gql_doc.specs.Marks.{is_mark, is_name, is_number, is_string, is_word, is_fragment_name, is_operation_type, is_opening, is_closing}
+use Rattle.gql_doc.specs.Nesting.{room_behind, taken}
+use Rattle.gql_doc.proofs.Sets.{Set, no_tokens, marked, names, numbers, strings, all_tokens, union, only_if, has, disjoint, disjoint-has, has-union, or_left, or_right, is_mark-has, is_name-has, is_number-has, is_string-has}
+use Rattle.gql_doc.proofs.Predictive.{Begun, Predictive, returns-predictive, token-predictive, bind-predictive, pick-predictive, pick_first-predictive, other-predictive, shut-predictive, many-predictive, some-predictive, forbid-predictive}
+use Rattle.gql_model.specs.declared.syntax.Literal.{Literal}
+use Rattle.gql_model.specs.declared.syntax.Literal.TheVariants as literal
+use Rattle.gql_model.specs.declared.syntax.Argument.{Argument, roll-Argument}
+use Rattle.gql_model.specs.declared.syntax.TypeRef.{TypeRef}
+use Rattle.gql_model.specs.declared.syntax.TypeRef.TheVariants as type
+use Rattle.gql_model.specs.declared.syntax.DirectiveUse.{DirectiveUse}
+use Rattle.gql_model.specs.declared.syntax.VariableDef.{VariableDef}
+use Rattle.gql_model.specs.declared.syntax.Selection.{Selection}
+use Rattle.gql_model.specs.declared.syntax.Definition.{Definition}
+use Rattle.gql_model.specs.declared.syntax.Document.{Document}
+
+-- ---- single tokens
+
+-- a token for each class
+a_token : TokenKind → List ℕ → Lexeme
+a_token k text = record { kind = k; text = text; start = 0; spot = record { line = 0; column = 0 } }
+
+opening : Set
+opening = union (marked 91) (marked 123)
+
+closing : Set
+closing = union (marked 93) (marked 125)
+
+two_marks : (a b : ℕ) (t : Lexeme) → (is_mark a t || is_mark b t) ≡ has (union (marked a) (marked b)) t
+two_marks a b t = (λ i. is_mark-has a t i || is_mark-has b t i) ∙ sym (has-union (marked a) (marked b) t)
+
+behind_plain : (n : ℕ) (t : Lexeme) (a b : Bool) → is_opening t ≡ a → is_closing t ≡ b → a ≡ false → b ≡ false → room_behind n t ≡ Some n
+behind_plain n t a b opens closes e f = rw (opens, closes, e, f) refl
+
+-- tokens of a set with no braces and brackets leave the room as it is
+level_plain : (F : Set) (n : ℕ) → disjoint F (union (marked 91) (marked 123)) ≡ true → disjoint F (union (marked 93) (marked 125)) ≡ true → (t : Lexeme) → has F t ≡ true → room_behind n t ≡ Some n
+level_plain F n one two t h = behind_plain n t _ _ refl refl
+    (two_marks 91 123 t ∙ disjoint-has F (union (marked 91) (marked 123)) t one h)
+    (two_marks 93 125 t ∙ disjoint-has F (union (marked 93) (marked 125)) t two h)
+
+level_opens : (n : ℕ) (t : Lexeme) → is_opening t ≡ true → room_behind (suc n) t ≡ Some n
+level_opens n t e = rw e refl
+
+level_closes : (F : Set) (n : ℕ) → disjoint F (union (marked 91) (marked 123)) ≡ true → (t : Lexeme) → has F t ≡ true → is_closing t ≡ true → room_behind n t ≡ Some (suc n)
+level_closes F n one t h e =
+    let no = two_marks 91 123 t ∙ disjoint-has F (union (marked 91) (marked 123)) t one h in
+    rw (no, e) refl
+
+mark_example : (byte : ℕ) → is_mark byte (a_token kind.Punctuator (byte ∷ [])) ≡ true
+unfolding a_token
+mark_example byte = eq-eqb byte byte refl
+
+-- a punctuator that is no brace or bracket
+mark-predictive : {n : ℕ} (byte : ℕ) → disjoint (marked byte) (union (marked 91) (marked 123)) ≡ true → disjoint (marked byte) (union (marked 93) (marked 125)) ≡ true
+    → Predictive n n (grammar.mark byte) (grammar.mark byte) (reading.mark byte) (marked byte) no_tokens false
+mark-predictive {n = n} byte one two = token-predictive (is_mark byte) (marked byte) (a_token kind.Punctuator (byte ∷ [])) (mark_example byte)
+    (λ t h. sym (is_mark-has byte t) ∙ h) (λ t h. level_plain (marked byte) n one two t (sym (is_mark-has byte t) ∙ h))
+
+opens-predictive : {n : ℕ} (byte : ℕ) → ((t : Lexeme) → is_mark byte t ≡ true → is_opening t ≡ true)
+    → Predictive (suc n) n (grammar.mark byte) (grammar.mark byte) (reading.mark byte) (marked byte) no_tokens false
+opens-predictive {n = n} byte opens = token-predictive (is_mark byte) (marked byte) (a_token kind.Punctuator (byte ∷ [])) (mark_example byte)
+    (λ t h. sym (is_mark-has byte t) ∙ h) (λ t h. level_opens n t (opens t h))
+
+closes-predictive : {n : ℕ} (byte : ℕ) → disjoint (marked byte) (union (marked 91) (marked 123)) ≡ true → ((t : Lexeme) → is_mark byte t ≡ true → is_closing t ≡ true)
+    → Predictive n (suc n) (grammar.mark byte) (grammar.mark byte) (reading.mark byte) (marked byte) no_tokens false
+closes-predictive {n = n} byte one closes = token-predictive (is_mark byte) (marked byte) (a_token kind.Punctuator (byte ∷ [])) (mark_example byte)
+    (λ t h. sym (is_mark-has byte t) ∙ h) (λ t h. level_closes (marked byte) n one t (sym (is_mark-has byte t) ∙ h) (closes t h))
+
+bracket_opens : (t : Lexeme) → is_mark 91 t ≡ true → is_opening t ≡ true
+bracket_opens t h = or_left (is_mark 91 t) (is_mark 123 t) h
+
+brace_opens : (t : Lexeme) → is_mark 123 t ≡ true → is_opening t ≡ true
+brace_opens t h = or_right (is_mark 91 t) (is_mark 123 t) h
+
+bracket_closes : (t : Lexeme) → is_mark 93 t ≡ true → is_closing t ≡ true
+bracket_closes t h = or_left (is_mark 93 t) (is_mark 125 t) h
+
+brace_closes : (t : Lexeme) → is_mark 125 t ≡ true → is_closing t ≡ true
+brace_closes t h = or_right (is_mark 93 t) (is_mark 125 t) h
+
+name-predictive : {n : ℕ} → Predictive n n grammar.name grammar.name reading.name names no_tokens false
+unfolding a_token
+name-predictive {n = n} = token-predictive is_name names (a_token kind.Name (codes "a")) refl (λ t h. sym (is_name-has t) ∙ h) (λ t h. level_plain names n refl refl t (sym (is_name-has t) ∙ h))
+
+and_first : (a b : Bool) → (a && b) ≡ true → a ≡ true
+and_first true b h = refl
+and_first false b h = h
+
+-- a test that only names pass
+word-predictive : {n : ℕ} (test : Lexeme → Bool) (example : Lexeme) → test example ≡ true → ((t : Lexeme) → test t ≡ true → is_name t ≡ true) → Predictive n n (token test) (token test) (take test) names no_tokens false
+word-predictive {n = n} test example passes only = token-predictive test names example passes (λ t h. sym (is_name-has t) ∙ only t h) (λ t h. level_plain names n refl refl t (sym (is_name-has t) ∙ only t h))
+
+word_is_name : (word : List ℕ) (t : Lexeme) → is_word word t ≡ true → is_name t ≡ true
+word_is_name word t h = and_first (is_name t) _ h
+
+fragment_name_is_name : (t : Lexeme) → is_fragment_name t ≡ true → is_name t ≡ true
+fragment_name_is_name t h = and_first (is_name t) _ h
+
+type_is_name : (t : Lexeme) → is_operation_type t ≡ true → is_name t ≡ true
+type_is_name t h = by (is_name t) refl h
+  where
+    by : (b : Bool) → is_name t ≡ b → is_operation_type t ≡ true → is_name t ≡ true
+    by true e h = e
+    by false e h = let no : is_operation_type t ≡ false = rw e refl in let both = sym no ∙ h in absurd cc
+
+-- ---- what stands between two marks
+
+between-predictive : {A : Type 0} {a b c d : ℕ} {p q : Phrase A} {r : Reader A} {F N : Set} (e : Bool) (first last : ℕ)
+    → Predictive a b (grammar.mark first) (grammar.mark first) (reading.mark first) (marked first) no_tokens false
+    → Predictive b c p q r F N e
+    → Predictive c d (grammar.mark last) (grammar.mark last) (reading.mark last) (marked last) no_tokens false
+    → disjoint (marked last) N ≡ true → disjoint (union F (only_if e (marked last))) no_tokens ≡ true
+    → Predictive a d (grammar.between first p last) (grammar.between first q last) (reading.between first r last) (marked first) no_tokens false
+between-predictive true first last one inside two apart fresh =
+    bind-predictive one (λ first. bind-predictive inside (λ value. bind-predictive two (λ _. returns-predictive (first.spot, value)) refl) apart) fresh
+between-predictive false first last one inside two apart fresh =
+    bind-predictive one (λ first. bind-predictive inside (λ value. bind-predictive two (λ _. returns-predictive (first.spot, value)) refl) apart) fresh
+
+-- ---- values
+
+abbrev value_first : Bool → Set
+value_first true = union numbers (union strings (union names (union (marked 91) (marked 123))))
+value_first false = union (marked 36) (union numbers (union strings (union names (union (marked 91) (marked 123)))))
+
+number-predictive : {n : ℕ} → Predictive n n (token is_number) (token is_number) (take is_number) numbers no_tokens false
+unfolding a_token
+number-predictive {n = n} = token-predictive is_number numbers (a_token kind.Int (codes "1")) refl (λ t h. sym (is_number-has t) ∙ h) (λ t h. level_plain numbers n refl refl t (sym (is_number-has t) ∙ h))
+
+string-predictive : {n : ℕ} → Predictive n n (token is_string) (token is_string) (take is_string) strings no_tokens false
+unfolding a_token
+string-predictive {n = n} = token-predictive is_string strings (a_token kind.Quoted (codes "")) refl (λ t h. sym (is_string-has t) ∙ h) (λ t h. level_plain strings n refl refl t (sym (is_string-has t) ∙ h))
+
+variable-predictive : {n : ℕ} → Predictive n n (grammar.variable false) (grammar.variable false) (reading.variable false) (marked 36) no_tokens false
+variable-predictive = bind-predictive (mark-predictive 36 refl refl) (λ dollar. bind-predictive name-predictive (λ word. returns-predictive (literal.Variable word.text dollar.spot)) refl) refl
+
+-- the productions of a value, in the order in which the parser looks for them
+abbrev number_value : Phrase Literal
+number_value = phrase.◌>>=◌ (token is_number) (λ number. returns (literal.Int number.text number.spot))
+
+abbrev string_value_of : Phrase Literal
+string_value_of = phrase.◌>>=◌ (token is_string) (λ string. returns (literal.Text (string_value string.kind string.text) string.spot))
+
+abbrev word_of : Phrase Literal
+word_of = phrase.◌>>=◌ grammar.name (λ word. returns (grammar.word_value word))
+
+abbrev unfixed : Phrase Literal → Phrase Literal
+unfixed nested = either number_value (either string_value_of (either word_of nested))
+
+abbrev unfixed_reader : Reader Literal → Reader Literal
+unfixed_reader nested =
+    pick is_number (reading.◌>>=◌ (take is_number) (λ number. gives (literal.Int number.text number.spot)))
+    (pick is_string (reading.◌>>=◌ (take is_string) (λ string. gives (literal.Text (string_value string.kind string.text) string.spot)))
+    (pick is_name reading.word nested))
+
+unfixed-predictive : {n : ℕ} {p q : Phrase Literal} {r : Reader Literal} → Predictive n n p q r (union (marked 91) (marked 123)) no_tokens false
+    → Predictive n n (unfixed p) (unfixed q) (unfixed_reader r) (union numbers (union strings (union names (union (marked 91) (marked 123))))) no_tokens false
+unfixed-predictive nested =
+    pick_first-predictive is_number is_number-has (bind-predictive number-predictive (λ number. returns-predictive (literal.Int number.text number.spot)) refl)
+    (pick_first-predictive is_string is_string-has (bind-predictive string-predictive (λ string. returns-predictive (literal.Text (string_value string.kind string.text) string.spot)) refl)
+    (pick_first-predictive is_name is_name-has (bind-predictive name-predictive (λ word. returns-predictive (grammar.word_value word)) refl) nested refl) refl) refl
+
+dollar_no : (t : Lexeme) → has (value_first true) t ≡ true → is_mark 36 t ≡ false
+dollar_no t h = is_mark-has 36 t ∙ disjoint-has (value_first true) (marked 36) t refl h
+
+values-predictive : {n : ℕ} {p q : Phrase Literal} {r : Reader Literal} (constant : Bool) → Predictive n n p q r (union (marked 91) (marked 123)) no_tokens false
+    → Predictive n n (either (grammar.variable constant) (unfixed p)) (either (grammar.variable constant) (unfixed q)) (reading.value_or constant r) (value_first constant) no_tokens false
+values-predictive true nested = forbid-predictive (is_mark 36) dollar_no (unfixed-predictive nested)
+values-predictive false nested = pick_first-predictive (is_mark 36) (is_mark-has 36) variable-predictive (unfixed-predictive nested) refl
+
+-- what a value is with no brackets and braces, and with them, is one of these
+to_right : {A : Type 0} (v w x y z : Phrase A) (tokens : List Lexeme) (a : A) → either (either v (either w (either x y))) z tokens a → either v (either w (either x (either y z))) tokens a
+to_right v w x y z tokens a (inl (inl h)) = inl h
+to_right v w x y z tokens a (inl (inr (inl h))) = inr (inl h)
+to_right v w x y z tokens a (inl (inr (inr (inl h)))) = inr (inr (inl h))
+to_right v w x y z tokens a (inl (inr (inr (inr h)))) = inr (inr (inr (inl h)))
+to_right v w x y z tokens a (inr h) = inr (inr (inr (inr h)))
+
+to_left : {A : Type 0} (v w x y z : Phrase A) (tokens : List Lexeme) (a : A) → either v (either w (either x (either y z))) tokens a → either (either v (either w (either x y))) z tokens a
+to_left v w x y z tokens a (inl h) = inl (inl h)
+to_left v w x y z tokens a (inr (inl h)) = inl (inr (inl h))
+to_left v w x y z tokens a (inr (inr (inl h))) = inl (inr (inr (inl h)))
+to_left v w x y z tokens a (inr (inr (inr (inl h)))) = inl (inr (inr (inr h)))
+to_left v w x y z tokens a (inr (inr (inr (inr h)))) = inr h
+
+-- list and object values whose items nest at most so deep
+abbrev nested_of : Bool → ℕ → Phrase Literal
+nested_of constant depth = either (grammar.list_value (grammar.value constant depth)) (grammar.object_value (grammar.value constant depth))
+
+-- those within a depth: none where there is none
+abbrev nested_within : Bool → ℕ → Phrase Literal
+nested_within constant zero = never
+nested_within constant (suc depth) = nested_of constant depth
+
+mark_first : {A : Type 0} (test : Lexeme → Bool) (f : Lexeme → Phrase A) (t : Lexeme) (tokens : List Lexeme) (a : A) → phrase.◌>>=◌ (token test) f (t ∷ tokens) a → test t ≡ true
+mark_first test f t tokens a h = by h.1.front h.1.whole h.1.front_is
+  where
+    by : (front : List Lexeme) → t ∷ tokens ≡ front ++ h.1.back → token test front h.0 → test t ≡ true
+    by [] e is = let no = is.0 in absurd cc
+    by (x ∷ front) e is = let same = is.0 in let one : t ≡ h.0 = cc in ap test one ∙ is.1
+
+mark_empty : {A : Type 0} (test : Lexeme → Bool) (f : Lexeme → Phrase A) (a : A) → phrase.◌>>=◌ (token test) f [] a → ⊥
+mark_empty test f a h = by h.1.front h.1.whole h.1.front_is
+  where
+    by : (front : List Lexeme) → [] ≡ front ++ h.1.back → token test front h.0 → ⊥
+    by [] e is = let no = is.0 in absurd cc
+    by (x ∷ front) e is = absurd cc
+
+-- what stands behind the first mark
+abbrev behind_first : {A : Type 0} → Phrase A → ℕ → Lexeme → Phrase (Spot × A)
+behind_first p last first = phrase.◌>>=◌ p (λ value. phrase.◌>>◌ (grammar.mark last) (returns (first.spot, value)))
+
+-- what begins with what stands between two marks begins with the first
+between_first : {A B : Type 0} (first last : ℕ) (p : Phrase A) (f : Spot × A → Phrase B) (t : Lexeme) (tokens : List Lexeme) (b : B) → phrase.◌>>=◌ (grammar.between first p last) f (t ∷ tokens) b → is_mark first t ≡ true
+between_first first last p f t tokens b h = by h.1.front h.1.whole h.1.front_is
+  where
+    by : (front : List Lexeme) → t ∷ tokens ≡ front ++ h.1.back → grammar.between first p last front h.0 → is_mark first t ≡ true
+    by [] e is = absurd (mark_empty (is_mark first) (behind_first p last) h.0 is)
+    by (x ∷ front) e is = let same : t ≡ x = cc in ap (is_mark first) same ∙ mark_first (is_mark first) (behind_first p last) x front h.0 is
+
+nil_first : {A : Type 0} (u v : List A) → [] ≡ u ++ v → u ≡ []
+nil_first [] v h = refl
+nil_first (x ∷ u) v h = absurd cc
+
+between_empty : {A B : Type 0} (first last : ℕ) (p : Phrase A) (f : Spot × A → Phrase B) (b : B) → phrase.◌>>=◌ (grammar.between first p last) f [] b → ⊥
+between_empty first last p f b h = mark_empty (is_mark first) (behind_first p last) h.0 (subst (λ w. grammar.between first p last w h.0) (nil_first h.1.front h.1.back h.1.whole) h.1.front_is)
+
+-- ---- list and object values
+
+begins_value-has : (t : Lexeme) → reading.begins_value t ≡ has (value_first false) t
+begins_value-has t =
+    (λ i. is_mark-has 36 t i || (is_number-has t i || (is_string-has t i || (is_name-has t i || two_marks 91 123 t i))))
+    ∙ (λ i. has (marked 36) t || (has numbers t || (has strings t || sym (has-union names (union (marked 91) (marked 123)) t) i)))
+    ∙ (λ i. has (marked 36) t || (has numbers t || sym (has-union strings (union names (union (marked 91) (marked 123))) t) i))
+    ∙ (λ i. has (marked 36) t || sym (has-union numbers (union strings (union names (union (marked 91) (marked 123)))) t) i)
+    ∙ sym (has-union (marked 36) (union numbers (union strings (union names (union (marked 91) (marked 123))))) t)
+
+value_first-all : (constant : Bool) (t : Lexeme) → has (value_first constant) t ≡ true → has (value_first false) t ≡ true
+value_first-all true t h = has-union (marked 36) (value_first true) t ∙ or_right (has (marked 36) t) (has (value_first true) t) h
+value_first-all false t h = h
+
+value_apart : (constant : Bool) → disjoint (value_first constant) no_tokens ≡ true
+value_apart true = refl
+value_apart false = refl
+
+value_fresh : (constant : Bool) → disjoint (union (value_first constant) (only_if true (marked 93))) no_tokens ≡ true
+value_fresh true = refl
+value_fresh false = refl
+
+list-predictive : {n : ℕ} {p q : Phrase Literal} {r : Reader Literal} (constant : Bool) → Predictive n n p q r (value_first constant) no_tokens false
+    → Predictive (suc n) (suc n) (grammar.list_value p) (grammar.list_value q) (reading.list_value r) (marked 91) no_tokens false
+list-predictive constant item =
+    bind-predictive (between-predictive true 91 93 (opens-predictive 91 bracket_opens)
+      (many-predictive reading.begins_value (value_first false) (λ t h. begins_value-has t ∙ value_first-all constant t h) (λ t h. sym (begins_value-has t) ∙ h) (value_apart constant) item)
+      (closes-predictive 93 refl bracket_closes) refl (value_fresh constant))
+    (λ list. returns-predictive (literal.List list.1 list.0)) refl
+
+argument-predictive : {n : ℕ} {p q : Phrase Literal} {r : Reader Literal} (constant : Bool) → Predictive n n p q r (value_first constant) no_tokens false
+    → Predictive n n (grammar.argument p) (grammar.argument q) (reading.argument r) names no_tokens false
+unfolding reading.argument
+argument-predictive true value =
+    bind-predictive name-predictive (λ word. bind-predictive (mark-predictive 58 refl refl) (λ _. bind-predictive value (λ it. returns-predictive (roll-Argument (record { name = word.text; value = it; spot = word.spot }))) refl) refl) refl
+argument-predictive false value =
+    bind-predictive name-predictive (λ word. bind-predictive (mark-predictive 58 refl refl) (λ _. bind-predictive value (λ it. returns-predictive (roll-Argument (record { name = word.text; value = it; spot = word.spot }))) refl) refl) refl
+
+object-predictive : {n : ℕ} {p q : Phrase Literal} {r : Reader Literal} (constant : Bool) → Predictive n n p q r (value_first constant) no_tokens false
+    → Predictive (suc n) (suc n) (grammar.object_value p) (grammar.object_value q) (reading.object_value r) (marked 123) no_tokens false
+object-predictive constant value =
+    bind-predictive (between-predictive true 123 125 (opens-predictive 123 brace_opens)
+      (many-predictive is_name names (λ t h. is_name-has t ∙ h) (λ t h. sym (is_name-has t) ∙ h) refl (argument-predictive constant value))
+      (closes-predictive 125 refl brace_closes) refl refl)
+    (λ object. returns-predictive (literal.Object object.1 object.0)) refl
+
+-- an empty list and an empty object, behind their first mark
+list_begun : (p : Phrase Literal) (t : Lexeme) → is_mark 91 t ≡ true → Begun (grammar.list_value p) (t ∷ [])
+unfolding a_token
+list_begun p t e =
+    let last = a_token kind.Punctuator (93 ∷ []) in
+    record { more = last ∷ []; value = literal.List [] t.spot;
+      is = ((t.spot, []), record { front = t ∷ last ∷ []; back = []; whole = refl; back_is = (refl, refl);
+        front_is = (t, record { front = t ∷ []; back = last ∷ []; whole = refl; front_is = (refl, e);
+          back_is = ([], record { front = []; back = last ∷ []; whole = refl; front_is = refl;
+            back_is = (last, record { front = last ∷ []; back = []; whole = refl; front_is = (refl, mark_example 93); back_is = (refl, refl) }) }) }) }) }
+
+object_begun : (p : Phrase Literal) (t : Lexeme) → is_mark 123 t ≡ true → Begun (grammar.object_value p) (t ∷ [])
+unfolding a_token
+object_begun p t e =
+    let last = a_token kind.Punctuator (125 ∷ []) in
+    record { more = last ∷ []; value = literal.Object [] t.spot;
+      is = ((t.spot, []), record { front = t ∷ last ∷ []; back = []; whole = refl; back_is = (refl, refl);
+        front_is = (t, record { front = t ∷ []; back = last ∷ []; whole = refl; front_is = (refl, e);
+          back_is = ([], record { front = []; back = last ∷ []; whole = refl; front_is = refl;
+            back_is = (last, record { front = last ∷ []; back = []; whole = refl; front_is = (refl, mark_example 125); back_is = (refl, refl) }) }) }) }) }
+
+or_else : {A : Type 0} (a b : Bool) → (a || b) ≡ true → (a ≡ true → A) → (b ≡ true → A) → A
+or_else true b h f g = f refl
+or_else false b h f g = g h
+
+nested_begun : (constant : Bool) (depth : ℕ) (t : Lexeme) → reading.begins_nested t ≡ true → Begun (nested_of constant depth) (t ∷ [])
+nested_begun constant depth t h = or_else (is_mark 91 t) (is_mark 123 t) h
+    (λ e. let b = list_begun (grammar.value constant depth) t e in record { more = b.more; value = b.value; is = inl b.is })
+    (λ e. let b = object_begun (grammar.value constant depth) t e in record { more = b.more; value = b.value; is = inr b.is })
+
+nested_begun_none : (constant : Bool) (depth : ℕ) → Begun (nested_of constant depth) []
+unfolding a_token
+nested_begun_none constant depth =
+    let b = list_begun (grammar.value constant depth) (a_token kind.Punctuator (91 ∷ [])) (mark_example 91) in
+    record { more = a_token kind.Punctuator (91 ∷ []) ∷ b.more; value = b.value; is = inl b.is }
+
+nested_passes : (constant : Bool) (depth : ℕ) (t : Lexeme) (ts : List Lexeme) (a : Literal) → nested_of constant depth (t ∷ ts) a → reading.begins_nested t ≡ true
+nested_passes constant depth t ts a (inl h) = or_left (is_mark 91 t) (is_mark 123 t) (between_first 91 93 (phrase.many (grammar.value constant depth)) (λ x. returns (literal.List x.1 x.0)) t ts a h)
+nested_passes constant depth t ts a (inr h) = or_right (is_mark 91 t) (is_mark 123 t) (between_first 123 125 (phrase.many (grammar.argument (grammar.value constant depth))) (λ x. returns (literal.Object x.1 x.0)) t ts a h)
+
+nested_empty : (constant : Bool) (depth : ℕ) (a : Literal) → nested_of constant depth [] a → ⊥
+nested_empty constant depth a (inl h) = between_empty 91 93 (phrase.many (grammar.value constant depth)) (λ x. returns (literal.List x.1 x.0)) a h
+nested_empty constant depth a (inr h) = between_empty 123 125 (phrase.many (grammar.argument (grammar.value constant depth))) (λ x. returns (literal.Object x.1 x.0)) a h
+
+within_passes : (constant : Bool) (depth : ℕ) (t : Lexeme) (ts : List Lexeme) (a : Literal) → nested_within constant depth (t ∷ ts) a → reading.begins_nested t ≡ true
+within_passes constant zero t ts a h = absurd h
+within_passes constant (suc depth) t ts a h = nested_passes constant depth t ts a h
+
+within_empty : (constant : Bool) (depth : ℕ) (a : Literal) → nested_within constant depth [] a → ⊥
+within_empty constant zero a h = h
+within_empty constant (suc depth) a h = nested_empty constant depth a h
+
+value_within : (constant : Bool) (depth : ℕ) (tokens : List Lexeme) (a : Literal) → grammar.value constant depth tokens a → either (grammar.variable constant) (unfixed (nested_within constant depth)) tokens a
+value_within constant zero tokens a h = to_right (grammar.variable constant) number_value string_value_of word_of never tokens a (inl h)
+value_within constant (suc depth) tokens a h = to_right (grammar.variable constant) number_value string_value_of word_of (nested_of constant depth) tokens a h
+
+value_from : (constant : Bool) (n k : ℕ) → Predictive n n (nested_of constant n) (nested_within constant k) (reading.nested constant n) (union (marked 91) (marked 123)) no_tokens false
+    → Predictive n n (grammar.value constant (suc n)) (grammar.value constant k) (reading.value constant n) (value_first constant) no_tokens false
+value_from constant n k nested = other-predictive (grammar.value constant (suc n)) (grammar.value constant k)
+    (to_left (grammar.variable constant) number_value string_value_of word_of (nested_of constant n))
+    (to_right (grammar.variable constant) number_value string_value_of word_of (nested_of constant n))
+    (value_within constant k) (values-predictive constant nested)
+
+nested_from : (constant : Bool) (n k : ℕ) → Predictive n n (grammar.value constant (suc n)) (grammar.value constant k) (reading.value constant n) (value_first constant) no_tokens false
+    → Predictive (suc n) (suc n) (nested_of constant (suc n)) (nested_of constant k) (reading.nested_value (reading.value constant n)) (union (marked 91) (marked 123)) no_tokens false
+nested_from constant n k value = pick_first-predictive (is_mark 91) (is_mark-has 91) (list-predictive constant value) (object-predictive constant value) refl
+
+nested-predictive : (constant : Bool) (n k : ℕ) → Predictive n n (nested_of constant n) (nested_within constant k) (reading.nested constant n) (union (marked 91) (marked 123)) no_tokens false
+unfolding reading.nested
+nested-predictive constant zero k = shut-predictive (nested_of constant 0) (nested_within constant k) reading.begins_nested (union (marked 91) (marked 123)) (nested_begun_none constant 0)
+    (nested_empty constant 0) (within_empty constant k) (λ t h. (h, nested_begun constant 0 t h)) (within_passes constant k) (λ t h. sym (two_marks 91 123 t) ∙ h)
+nested-predictive constant (suc n) (suc k) = nested_from constant n k (value_from constant n k (nested-predictive constant n k))
+nested-predictive constant (suc n) zero = other-predictive (nested_of constant (suc n)) never (λ tokens a h. h) (λ tokens a h. h) (λ tokens a h. absurd h)
+    (nested_from constant n zero (value_from constant n zero (nested-predictive constant n zero)))
+
+value-predictive : (constant : Bool) (n k : ℕ) → Predictive n n (grammar.value constant (suc n)) (grammar.value constant k) (reading.value constant n) (value_first constant) no_tokens false
+value-predictive constant n k = value_from constant n k (nested-predictive constant n k)
+
+-- ---- arguments and directives
+
+abbrev marks : List ℕ → Set
+marks bytes = record { marks = bytes; names = false; numbers = false; strings = false; all = false }
+
+value_empty : (constant : Bool) → disjoint (value_first constant) no_tokens ≡ true
+value_empty constant = value_apart constant
+
+-- a phrase or nothing, where the next token tells
+listed-predictive : {A : Type 0} {n : ℕ} {p q : Phrase (List A)} {r : Reader (List A)} (byte : ℕ)
+    → Predictive n n p q r (marked byte) no_tokens false
+    → Predictive n n (phrase.listed p) (phrase.listed q) (reading.listed (is_mark byte) r) (marked byte) (marked byte) true
+listed-predictive byte one = pick_first-predictive (is_mark byte) (is_mark-has byte) one (returns-predictive []) refl
+
+optional-predictive : {A : Type 0} {n : ℕ} {p q : Phrase A} {r : Reader A} (byte : ℕ)
+    → Predictive n n p q r (marked byte) no_tokens false
+    → Predictive n n (phrase.optional p) (phrase.optional q) (reading.optional (is_mark byte) r) (marked byte) (marked byte) true
+optional-predictive byte one = pick_first-predictive (is_mark byte) (is_mark-has byte) (bind-predictive one (λ a. returns-predictive (Some a)) refl) (returns-predictive None) refl
+
+arguments-predictive : (constant : Bool) (n k : ℕ) → Predictive n n (grammar.arguments constant (suc n)) (grammar.arguments constant k) (reading.arguments constant n) (marked 40) (marked 40) true
+unfolding reading.arguments
+arguments-predictive constant n k = listed-predictive 40
+    (bind-predictive (between-predictive false 40 41 (mark-predictive 40 refl refl)
+      (some-predictive is_name names (λ t h. is_name-has t ∙ h) (λ t h. sym (is_name-has t) ∙ h) refl (argument-predictive constant (value-predictive constant n k)))
+      (mark-predictive 41 refl refl) refl refl)
+    (λ all. returns-predictive all.1) refl)
+
+directive-predictive : (constant : Bool) (n k : ℕ) → Predictive n n (grammar.directive constant (suc n)) (grammar.directive constant k) (reading.directive constant n) (marked 64) (marked 40) false
+unfolding reading.directive
+directive-predictive constant n k =
+    bind-predictive (mark-predictive 64 refl refl) (λ at. bind-predictive name-predictive (λ word. bind-predictive (arguments-predictive constant n k) (λ given.
+      returns-predictive (record { name = word.text; arguments = given; spot = at.spot })) refl) refl) refl
+
+directives-predictive : (constant : Bool) (n k : ℕ) → Predictive n n (grammar.directives constant (suc n)) (grammar.directives constant k) (reading.directives constant n) (marked 64) (marks (64 ∷ 40 ∷ [])) true
+unfolding reading.directives
+directives-predictive constant n k = many-predictive (is_mark 64) (marked 64) (λ t h. is_mark-has 64 t ∙ h) (λ t h. sym (is_mark-has 64 t) ∙ h) refl (directive-predictive constant n k)
+
+-- ---- variables and types
+
+named_type-predictive : {n : ℕ} → Predictive n n grammar.named_type grammar.named_type reading.named_type names no_tokens false
+named_type-predictive = bind-predictive name-predictive (λ word. returns-predictive (type.Named word.text word.spot)) refl
+
+non_null-predictive : {n : ℕ} (inner : TypeRef) → Predictive n n (grammar.maybe_non_null inner) (grammar.maybe_non_null inner) (reading.maybe_non_null inner) (marked 33) (marked 33) true
+non_null-predictive inner = pick_first-predictive (is_mark 33) (is_mark-has 33) (bind-predictive (mark-predictive 33 refl refl) (λ _. returns-predictive (type.NonNull inner)) refl) (returns-predictive inner) refl
+
+abbrev type_of : Phrase TypeRef → Phrase TypeRef
+type_of nested = phrase.◌>>=◌ (either grammar.named_type nested) grammar.maybe_non_null
+
+abbrev list_within : ℕ → Phrase TypeRef
+list_within zero = never
+list_within (suc depth) = grammar.list_type (grammar.type_ref depth)
+
+type_within : (depth : ℕ) (tokens : List Lexeme) (a : TypeRef) → grammar.type_ref depth tokens a → type_of (list_within depth) tokens a
+type_within zero tokens a h = (h.0, record { front = h.1.front; back = h.1.back; whole = h.1.whole; front_is = inl h.1.front_is; back_is = h.1.back_is })
+type_within (suc depth) tokens a h = h
+
+type_from : {n : ℕ} {p q : Phrase TypeRef} {r : Reader TypeRef} → Predictive n n p q r (marked 91) no_tokens false
+    → Predictive n n (type_of p) (type_of q) (reading.type_or r) (union names (marked 91)) (marked 33) false
+type_from nested = bind-predictive (pick_first-predictive is_name is_name-has named_type-predictive nested refl) non_null-predictive refl
+
+type_begun : (depth : ℕ) (t : Lexeme) → is_mark 91 t ≡ true → Begun (grammar.list_type (grammar.type_ref depth)) (t ∷ [])
+unfolding a_token
+type_begun depth t e =
+    let word = a_token kind.Name (codes "a") in
+    let last = a_token kind.Punctuator (93 ∷ []) in
+    let inner = type.Named word.text word.spot in
+    record { more = word ∷ last ∷ []; value = type.List inner;
+      is = ((t.spot, inner), record { front = t ∷ word ∷ last ∷ []; back = []; whole = refl; back_is = (refl, refl);
+        front_is = (t, record { front = t ∷ []; back = word ∷ last ∷ []; whole = refl; front_is = (refl, e);
+          back_is = (inner, record { front = word ∷ []; back = last ∷ []; whole = refl; front_is = by depth;
+            back_is = (last, record { front = last ∷ []; back = []; whole = refl; front_is = (refl, mark_example 93); back_is = (refl, refl) }) }) }) }) }
+  where
+    named : grammar.named_type (a_token kind.Name (codes "a") ∷ []) (type.Named (codes "a") (record { line = 0; column = 0 }))
+    named = (a_token kind.Name (codes "a"), record { front = a_token kind.Name (codes "a") ∷ []; back = []; whole = refl; front_is = (refl, refl); back_is = (refl, refl) })
+    by : (d : ℕ) → grammar.type_ref d (a_token kind.Name (codes "a") ∷ []) (type.Named (codes "a") (record { line = 0; column = 0 }))
+    by zero = (type.Named (codes "a") (record { line = 0; column = 0 }), record { front = a_token kind.Name (codes "a") ∷ []; back = []; whole = refl; front_is = named; back_is = inr (refl, refl) })
+    by (suc d) = (type.Named (codes "a") (record { line = 0; column = 0 }), record { front = a_token kind.Name (codes "a") ∷ []; back = []; whole = refl; front_is = inl named; back_is = inr (refl, refl) })
+
+type_begun_none : (depth : ℕ) → Begun (grammar.list_type (grammar.type_ref depth)) []
+unfolding a_token
+type_begun_none depth =
+    let b = type_begun depth (a_token kind.Punctuator (91 ∷ [])) (mark_example 91) in
+    record { more = a_token kind.Punctuator (91 ∷ []) ∷ b.more; value = b.value; is = b.is }
+
+list_passes : (depth : ℕ) (t : Lexeme) (ts : List Lexeme) (a : TypeRef) → list_within depth (t ∷ ts) a → is_mark 91 t ≡ true
+list_passes zero t ts a h = absurd h
+list_passes (suc depth) t ts a h = between_first 91 93 (grammar.type_ref depth) (λ x. returns (type.List x.1)) t ts a h
+
+list_empty : (depth : ℕ) (a : TypeRef) → list_within depth [] a → ⊥
+list_empty zero a h = h
+list_empty (suc depth) a h = between_empty 91 93 (grammar.type_ref depth) (λ x. returns (type.List x.1)) a h
+
+list_type_from : (n k : ℕ) → Predictive n n (grammar.type_ref (suc n)) (grammar.type_ref k) (reading.type_or (reading.list_type n)) (union names (marked 91)) (marked 33) false
+    → Predictive (suc n) (suc n) (grammar.list_type (grammar.type_ref (suc n))) (grammar.list_type (grammar.type_ref k)) (reading.◌>>=◌ (reading.between 91 (reading.type_or (reading.list_type n)) 93) (λ list. gives (type.List list.1))) (marked 91) no_tokens false
+list_type_from n k item =
+    bind-predictive (between-predictive false 91 93 (opens-predictive 91 bracket_opens) item (closes-predictive 93 refl bracket_closes) refl refl) (λ list. returns-predictive (type.List list.1)) refl
+
+type_at : (n k : ℕ) → Predictive n n (grammar.list_type (grammar.type_ref n)) (list_within k) (reading.list_type n) (marked 91) no_tokens false
+    → Predictive n n (grammar.type_ref (suc n)) (grammar.type_ref k) (reading.type_or (reading.list_type n)) (union names (marked 91)) (marked 33) false
+type_at n k nested = other-predictive (grammar.type_ref (suc n)) (grammar.type_ref k) (λ tokens a h. h) (λ tokens a h. h) (type_within k) (type_from nested)
+
+list_type-predictive : (n k : ℕ) → Predictive n n (grammar.list_type (grammar.type_ref n)) (list_within k) (reading.list_type n) (marked 91) no_tokens false
+unfolding reading.list_type
+list_type-predictive zero k = shut-predictive (grammar.list_type (grammar.type_ref 0)) (list_within k) (is_mark 91) (marked 91) (type_begun_none 0)
+    (λ a h. between_empty 91 93 (grammar.type_ref 0) (λ x. returns (type.List x.1)) a h) (list_empty k) (λ t h. (bracket_opens t h, type_begun 0 t h)) (list_passes k) (λ t h. sym (is_mark-has 91 t) ∙ h)
+list_type-predictive (suc n) (suc k) = list_type_from n k (type_at n k (list_type-predictive n k))
+list_type-predictive (suc n) zero = other-predictive (grammar.list_type (grammar.type_ref (suc n))) never (λ tokens a h. h) (λ tokens a h. h) (λ tokens a h. absurd h)
+    (list_type_from n zero (type_at n zero (list_type-predictive n zero)))
+
+type_ref-predictive : (n k : ℕ) → Predictive n n (grammar.type_ref (suc n)) (grammar.type_ref k) (reading.type_ref n) (union names (marked 91)) (marked 33) false
+unfolding reading.type_ref
+type_ref-predictive n k = type_at n k (list_type-predictive n k)
+
+default-predictive : (n k : ℕ) → Predictive n n (grammar.default_value (suc n)) (grammar.default_value k) (reading.default_value n) (marked 61) no_tokens false
+unfolding reading.default_value
+default-predictive n k = bind-predictive (mark-predictive 61 refl refl) (λ _. value-predictive true n k) refl
+
+variable_definition-predictive : (n k : ℕ) → Predictive n n (grammar.variable_definition (suc n)) (grammar.variable_definition k) (reading.variable_definition n) (marked 36) (marks (64 ∷ 40 ∷ 61 ∷ 33 ∷ [])) false
+unfolding reading.variable_definition
+variable_definition-predictive n k =
+    bind-predictive (mark-predictive 36 refl refl) (λ dollar. bind-predictive name-predictive (λ word. bind-predictive (mark-predictive 58 refl refl) (λ _.
+      bind-predictive (type_ref-predictive n k) (λ kind. bind-predictive (optional-predictive 61 (default-predictive n k)) (λ default. bind-predictive (directives-predictive true n k) (λ used.
+        returns-predictive (record { name = word.text; kind = kind; default = default; directives = used; spot = dollar.spot })) refl) refl) refl) refl) refl) refl
+
+variable_definitions-predictive : (n k : ℕ) → Predictive n n (grammar.variable_definitions (suc n)) (grammar.variable_definitions k) (reading.variable_definitions n) (marked 40) (marked 40) true
+unfolding reading.variable_definitions
+variable_definitions-predictive n k = listed-predictive 40
+    (bind-predictive (between-predictive false 40 41 (mark-predictive 40 refl refl)
+      (some-predictive (is_mark 36) (marked 36) (λ t h. is_mark-has 36 t ∙ h) (λ t h. sym (is_mark-has 36 t) ∙ h) refl (variable_definition-predictive n k))
+      (mark-predictive 41 refl refl) refl refl)
+    (λ all. returns-predictive all.1) refl)

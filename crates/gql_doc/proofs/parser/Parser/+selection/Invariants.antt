@@ -1,0 +1,26 @@
+use Rattle.std.proofs.Common.{◌≡◌, ◌+◌, ◌-◌, ◌*◌}
+use Rattle.gql_doc.specs.Left.{left}
+use Rattle.gql_doc.specs.Reading.{many, many_at, begins_selection, any_selection, selections}
+use Rattle.gql_doc.proofs.Loops.{with_front}
+use Rattle.gql_doc.proofs.parser.Parser.+selection.Given as goal
+
+abbrev pub decreases-selection_set : goal.decreases-selection_set
+decreases-selection_set l = 6 * l.room
+
+abbrev pub decreases-selections : goal.decreases-selections
+decreases-selections l = 6 * l.room + 1
+
+abbrev pub decreases-field : goal.decreases-field
+decreases-field l = 6 * l.room + 2
+
+abbrev pub decreases-inline_fragment : goal.decreases-inline_fragment
+decreases-inline_fragment l = 6 * l.room + 2
+
+abbrev pub decreases-selection : goal.decreases-selection
+decreases-selection l = 6 * l.room + 3
+
+abbrev pub decreases-some_selections : goal.decreases-some_selections
+decreases-some_selections l = 6 * l.room + 4
+
+abbrev pub invariant-some_selections-loop : goal.invariant-some_selections-loop
+invariant-some_selections-loop l = with_front l.selections (many_at (l.end - l.counter) begins_selection (any_selection l.room (selections l.room)) (left l.self)) ≡ many begins_selection (any_selection l.room (selections l.room)) (left l.fn.self)

@@ -1,0 +1,33 @@
+use Rattle.std.proofs.Common.{◌≡◌, ◌+◌, ◌-◌, ◌*◌, length}
+use Rattle.gql_doc.specs.Left.{left}
+use Rattle.gql_doc.specs.Marks.{is_name}
+use Rattle.gql_doc.specs.Reading.{many, many_at, begins_value, value, argument}
+use Rattle.gql_doc.proofs.Loops.{with_front}
+use Rattle.gql_doc.proofs.parser.Parser.+value.Given as goal
+
+abbrev pub decreases-value : goal.decreases-value
+decreases-value l = 6 * l.room + 1
+
+abbrev pub decreases-nested : goal.decreases-nested
+decreases-nested l = 6 * l.room
+
+abbrev pub decreases-list_value : goal.decreases-list_value
+decreases-list_value l = 6 * l.room + 3
+
+abbrev pub decreases-object_value : goal.decreases-object_value
+decreases-object_value l = 6 * l.room + 4
+
+abbrev pub decreases-values : goal.decreases-values
+decreases-values l = 6 * l.room + 2
+
+abbrev pub decreases-members : goal.decreases-members
+decreases-members l = 6 * l.room + 3
+
+abbrev pub decreases-argument : goal.decreases-argument
+decreases-argument l = 6 * l.room + 2
+
+abbrev pub invariant-values-loop : goal.invariant-values-loop
+invariant-values-loop l = with_front l.values (many_at (l.end - l.counter) begins_value (value l.constant l.room) (left l.self)) ≡ many begins_value (value l.constant l.room) (left l.fn.self)
+
+abbrev pub invariant-members-loop : goal.invariant-members-loop
+invariant-members-loop l = with_front l.members (many_at (l.end - l.counter) is_name (argument (value l.constant l.room)) (left l.self)) ≡ many is_name (argument (value l.constant l.room)) (left l.fn.self)

@@ -1,0 +1,130 @@
+//! Operations, fragments and documents: sections 2.2, 2.3 and 2.8 of the standard.
+
+ghost use Rattle.std.specs.Prelude.{◌≡◌, option_map};
+ghost use Rattle.gql_lex.specs.Tokens.{lexeme};
+ghost use Rattle.gql_doc.specs.Left.{left};
+ghost use Rattle.gql_doc.specs.Grammar.{operation_kind};
+ghost use Rattle.gql_doc.specs.Marks.{is_name};
+ghost use Rattle.gql_doc.specs.Reading.{Gives, many, optional, name, short_operation, operation_definition, fragment_definition, any_definition, document, is_any};
+
+use crate::parser::{Parser, Stop};
+use gql_lex::Token;
+use gql_model::{Definition, Document, FragmentDef, OperationDef, OperationKind};
+use gql_tree::Listed;
+
+impl<'a> Parser<'a> {
+    /// `ExecutableDocument`
+    #[tactic(auto, unfolding(crate::specs::Reading::document))]
+    pub(crate) fn document(&mut self, room: u32) -> Result<Document, Stop>
+        ensures { Gives (λ x. x) result (left self.new) (document room (left self.old)) }
+    {
+        self.require(self.count() > 0)?;
+        let definitions = self.definitions(room)?;
+        Ok(Document { definitions })
+    }
+
+    /// `ExecutableDefinition*`, to the end of the tokens
+    fn definitions(&mut self, room: u32) -> Result<Listed<Definition>, Stop>
+        ensures { Gives (λ x. x) result (left self.new) (many is_any (any_definition room) (left self.old)) }
+    {
+        let mut definitions = Listed::new(self.alloc);
+        for _ in 0..self.count() {
+            if self.count() == 0 {
+                return Ok(definitions);
+            }
+            definitions.push(self.definition(room)?)?;
+        }
+        Ok(definitions)
+    }
+
+    /// `ExecutableDefinition`
+    #[tactic(auto, unfolding(crate::specs::Reading::any_definition))]
+    fn definition(&mut self, room: u32) -> Result<Definition, Stop>
+        ensures { Gives (λ x. x) result (left self.new) (any_definition room (left self.old)) }
+    {
+        if self.next_is(b'{') {
+            self.short_operation(room)
+        } else if self.next_is_operation_type() {
+            self.operation(room)
+        } else {
+            self.fragment_definition(room)
+        }
+    }
+
+    /// `OperationDefinition` that is its selection set alone
+    #[tactic(auto, unfolding(crate::specs::Reading::short_operation))]
+    fn short_operation(&mut self, room: u32) -> Result<Definition, Stop>
+        ensures { Gives (λ x. x) result (left self.new) (short_operation room (left self.old)) }
+    {
+        let (spot, selections) = self.selection_set(room)?;
+        Ok(Definition::Operation(OperationDef {
+            kind: OperationKind::Query,
+            name: None,
+            variables: Listed::new(self.alloc),
+            directives: Listed::new(self.alloc),
+            selections,
+            spot,
+        }))
+    }
+
+    /// `OperationDefinition` with its type
+    #[tactic(auto, unfolding(crate::specs::Reading::operation_definition))]
+    fn operation(&mut self, room: u32) -> Result<Definition, Stop>
+        ensures { Gives (λ x. x) result (left self.new) (operation_definition room (left self.old)) }
+    {
+        let word = self.operation_type()?;
+        let name = self.maybe_name()?;
+        let variables = self.variable_definitions(room)?;
+        let directives = self.directives(false, room)?;
+        let selections = self.selections(room)?;
+        Ok(Definition::Operation(OperationDef {
+            kind: kind_of(word),
+            name: self.text_of(name)?,
+            variables,
+            directives,
+            selections,
+            spot: word.spot,
+        }))
+    }
+
+    /// `Name?`
+    fn maybe_name(&mut self) -> Result<Option<&'a Token<'a>>, Stop>
+        ensures { Gives (λ found. option_map (λ token. lexeme token.now) found) result (left self.new) (optional is_name name (left self.old)) }
+    {
+        if !self.next_is_name() {
+            return Ok(None);
+        }
+        Ok(Some(self.name()?))
+    }
+
+    /// `FragmentDefinition`
+    #[tactic(auto, unfolding(crate::specs::Reading::fragment_definition))]
+    fn fragment_definition(&mut self, room: u32) -> Result<Definition, Stop>
+        ensures { Gives (λ x. x) result (left self.new) (fragment_definition room (left self.old)) }
+    {
+        self.fragment()?;
+        let word = self.fragment_name()?;
+        let condition = self.type_condition()?;
+        let directives = self.directives(false, room)?;
+        let selections = self.selections(room)?;
+        Ok(Definition::Fragment(FragmentDef {
+            name: self.text(word)?,
+            condition: self.text(condition)?,
+            condition_spot: condition.spot,
+            directives,
+            selections,
+            spot: word.spot,
+        }))
+    }
+}
+
+/// The type of operation that a token names, which is `query`, `mutation` or else `subscription`.
+fn kind_of(word: &Token<'_>) -> OperationKind
+    ensures { result ≡ operation_kind (lexeme word.now) }
+{
+    match word.text {
+        "query" => OperationKind::Query,
+        "mutation" => OperationKind::Mutation,
+        _ => OperationKind::Subscription,
+    }
+}

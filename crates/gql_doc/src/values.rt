@@ -1,0 +1,214 @@
+//! Values, arguments and directives: sections 2.6, 2.9 and 2.12 of the standard.
+//!
+//! A method reads its production from the next token on. `room` is how many braces and brackets may
+//! still be opened.
+
+ghost use Rattle.std.specs.Prelude.{◌≡◌, ◌∷◌, [], codes, List, IfOk};
+ghost use Rattle.gql_lex.specs.Tokens.{lexeme};
+ghost use Rattle.gql_doc.specs.Left.{left};
+ghost use Rattle.gql_doc.specs.Marks.{is_mark, is_name, is_number, is_string};
+ghost use Rattle.gql_doc.specs.Reading.{Gives, next_is, many, value, nested, argument, arguments, directive, directives, begins_value, variable, word, list_value, object_value};
+
+use crate::parser::{Parser, Stop};
+use crate::string_token::string_value;
+use gql_model::{Argument, DirectiveUse, Literal};
+use gql_tree::Listed;
+
+impl Parser<'_> {
+    /// `Value`
+    #[cycle(value)]
+    pub(crate) fn value(&mut self, constant: bool, room: u32) -> Result<Literal, Stop>
+        ensures { Gives (λ x. x) result (left self.new) (value constant room (left self.old)) }
+    {
+        if self.next_is(b'$') {
+            return self.variable(constant);
+        }
+        if self.next_is_number() {
+            let number = self.number()?;
+            return Ok(Literal::Int(self.text(number)?, number.spot));
+        }
+        if self.next_is_string() {
+            let string = self.string()?;
+            return Ok(Literal::Text(string_value(self.alloc, string)?, string.spot));
+        }
+        if self.next_is_name() {
+            return self.word();
+        }
+        self.nested(constant, room)
+    }
+
+    /// `"$" Name`. A constant value has none.
+    fn variable(&mut self, constant: bool) -> Result<Literal, Stop>
+        ensures { Gives (λ x. x) result (left self.new) (variable constant (left self.old)) }
+    {
+        if constant {
+            return Err(Stop::Unexpected);
+        }
+        let dollar = self.mark(b'$')?;
+        let word = self.name()?;
+        Ok(Literal::Variable(self.text(word)?, dollar.spot))
+    }
+
+    /// `BooleanValue`, `NullValue` or `EnumValue`
+    fn word(&mut self) -> Result<Literal, Stop>
+        ensures { Gives (λ x. x) result (left self.new) (word (left self.old)) }
+    {
+        let word = self.name()?;
+        match word.text {
+            "true" => Ok(Literal::Bool(true, word.spot)),
+            "false" => Ok(Literal::Bool(false, word.spot)),
+            "null" => Ok(Literal::Null(word.spot)),
+            _ => Ok(Literal::Enum(self.text(word)?, word.spot)),
+        }
+    }
+
+    /// `ListValue` or `ObjectValue`
+    #[cycle(value)]
+    #[tactic(auto, using(crate::proofs::Rooms::nested_more, crate::proofs::Rooms::nested_none))]
+    fn nested(&mut self, constant: bool, room: u32) -> Result<Literal, Stop>
+        ensures { Gives (λ x. x) result (left self.new) (nested constant room (left self.old)) }
+    {
+        let is_list = self.next_is(b'[');
+        if room == 0 {
+            return Err(if is_list || self.next_is(b'{') {
+                Stop::TooDeep
+            } else {
+                Stop::Unexpected
+            });
+        }
+        if is_list {
+            self.list_value(constant, room - 1)
+        } else {
+            self.object_value(constant, room - 1)
+        }
+    }
+
+    /// `ListValue`, whose items may open `room` more.
+    #[cycle(value)]
+    fn list_value(&mut self, constant: bool, room: u32) -> Result<Literal, Stop>
+        ensures { Gives (λ x. x) result (left self.new) (list_value (value constant room) (left self.old)) }
+    {
+        let opening = self.mark(b'[')?;
+        let items = self.values(constant, room)?;
+        self.mark(b']')?;
+        Ok(Literal::List(items, opening.spot))
+    }
+
+    /// `Value*`
+    #[cycle(value)]
+    fn values(&mut self, constant: bool, room: u32) -> Result<Listed<Literal>, Stop>
+        ensures { Gives (λ x. x) result (left self.new) (many begins_value (value constant room) (left self.old)) }
+    {
+        let mut values = Listed::new(self.alloc);
+        for _ in 0..self.count() {
+            if !self.next_is_value() {
+                return Ok(values);
+            }
+            values.push(self.value(constant, room)?)?;
+        }
+        Ok(values)
+    }
+
+    /// Whether the next token begins a value.
+    fn next_is_value(&self) -> bool
+        ensures { result ≡ next_is begins_value (left self.now) }
+    {
+        self.next_is(b'$')
+            || self.next_is_number()
+            || self.next_is_string()
+            || self.next_is_name()
+            || self.next_is(b'[')
+            || self.next_is(b'{')
+    }
+
+    /// `ObjectValue`, whose values may open `room` more.
+    #[cycle(value)]
+    fn object_value(&mut self, constant: bool, room: u32) -> Result<Literal, Stop>
+        ensures { Gives (λ x. x) result (left self.new) (object_value (value constant room) (left self.old)) }
+    {
+        let opening = self.mark(b'{')?;
+        let members = self.members(constant, room)?;
+        self.mark(b'}')?;
+        Ok(Literal::Object(members, opening.spot))
+    }
+
+    /// `(Name ":" Value)*`
+    #[cycle(value)]
+    fn members(&mut self, constant: bool, room: u32) -> Result<Listed<Argument>, Stop>
+        ensures { Gives (λ x. x) result (left self.new) (many is_name (argument (value constant room)) (left self.old)) }
+    {
+        let mut members = Listed::new(self.alloc);
+        for _ in 0..self.count() {
+            if !self.next_is_name() {
+                return Ok(members);
+            }
+            members.push(self.argument(constant, room)?)?;
+        }
+        Ok(members)
+    }
+
+    /// `Name ":" Value`, an argument or an object's field
+    #[cycle(value)]
+    #[tactic(auto, unfolding(crate::specs::Reading::argument))]
+    fn argument(&mut self, constant: bool, room: u32) -> Result<Argument, Stop>
+        ensures { Gives (λ x. x) result (left self.new) (argument (value constant room) (left self.old)) }
+    {
+        let word = self.name()?;
+        self.mark(b':')?;
+        let value = self.value(constant, room)?;
+        Ok(Argument {
+            name: self.text(word)?,
+            value,
+            spot: word.spot,
+        })
+    }
+
+    /// `Arguments?`
+    #[tactic(auto, unfolding(crate::specs::Reading::arguments))]
+    pub(crate) fn arguments(&mut self, constant: bool, room: u32) -> Result<Listed<Argument>, Stop>
+        ensures { Gives (λ x. x) result (left self.new) (arguments constant room (left self.old)) }
+    {
+        if !self.next_is(b'(') {
+            return Ok(Listed::new(self.alloc));
+        }
+        self.mark(b'(')?;
+        self.require(self.next_is_name())?;
+        let arguments = self.members(constant, room)?;
+        self.mark(b')')?;
+        Ok(arguments)
+    }
+
+    /// `Directive`
+    #[tactic(auto, unfolding(crate::specs::Reading::directive))]
+    fn directive(&mut self, constant: bool, room: u32) -> Result<DirectiveUse, Stop>
+        ensures { Gives (λ x. x) result (left self.new) (directive constant room (left self.old)) }
+    {
+        let at = self.mark(b'@')?;
+        let word = self.name()?;
+        let arguments = self.arguments(constant, room)?;
+        Ok(DirectiveUse {
+            name: self.text(word)?,
+            arguments,
+            spot: at.spot,
+        })
+    }
+
+    /// `Directive*`
+    #[tactic(auto, unfolding(crate::specs::Reading::directives))]
+    pub(crate) fn directives(
+        &mut self,
+        constant: bool,
+        room: u32,
+    ) -> Result<Listed<DirectiveUse>, Stop>
+        ensures { Gives (λ x. x) result (left self.new) (directives constant room (left self.old)) }
+    {
+        let mut directives = Listed::new(self.alloc);
+        for _ in 0..self.count() {
+            if !self.next_is(b'@') {
+                return Ok(directives);
+            }
+            directives.push(self.directive(constant, room)?)?;
+        }
+        Ok(directives)
+    }
+}

@@ -1,0 +1,125 @@
+//! Variables and types: sections 2.10 and 2.11 of the standard.
+
+ghost use Rattle.std.specs.Prelude.{◌≡◌, IfOk};
+ghost use Rattle.gql_doc.specs.Left.{left};
+ghost use Rattle.gql_doc.specs.Marks.{is_mark};
+ghost use Rattle.gql_doc.specs.Reading.{Gives, next_is, many, type_ref, list_type, named_type, maybe_non_null, variable_definition, variable_definitions, optional, default_value};
+
+use crate::parser::{Parser, Stop};
+use gql_model::{Boxed, Literal, TypeRef, VariableDef};
+use gql_tree::Listed;
+
+impl Parser<'_> {
+    /// `Type`
+    #[cycle(type_ref)]
+    #[tactic(auto, unfolding(crate::specs::Reading::type_ref))]
+    fn type_ref(&mut self, room: u32) -> Result<TypeRef, Stop>
+        ensures { Gives (λ x. x) result (left self.new) (type_ref room (left self.old)) }
+    {
+        let inner = if self.next_is_name() {
+            self.named_type()?
+        } else {
+            self.list_type(room)?
+        };
+        self.maybe_non_null(inner)
+    }
+
+    /// `NamedType`
+    fn named_type(&mut self) -> Result<TypeRef, Stop>
+        ensures { Gives (λ x. x) result (left self.new) (named_type (left self.old)) }
+    {
+        let word = self.name()?;
+        Ok(TypeRef::Named(self.text(word)?, word.spot))
+    }
+
+    /// `ListType`
+    #[cycle(type_ref)]
+    #[tactic(auto, using(crate::proofs::Rooms::list_type_more, crate::proofs::Rooms::list_type_none))]
+    fn list_type(&mut self, room: u32) -> Result<TypeRef, Stop>
+        ensures { Gives (λ x. x) result (left self.new) (list_type room (left self.old)) }
+    {
+        if room == 0 {
+            return Err(if self.next_is(b'[') {
+                Stop::TooDeep
+            } else {
+                Stop::Unexpected
+            });
+        }
+        self.mark(b'[')?;
+        let item = self.type_ref(room - 1)?;
+        self.mark(b']')?;
+        Ok(TypeRef::List(Boxed::new(self.alloc, item)?))
+    }
+
+    /// The type with the `!` behind it, where one stands there.
+    fn maybe_non_null(&mut self, inner: TypeRef) -> Result<TypeRef, Stop>
+        ensures { Gives (λ x. x) result (left self.new) (maybe_non_null inner (left self.old)) }
+    {
+        if !self.next_is(b'!') {
+            return Ok(inner);
+        }
+        self.mark(b'!')?;
+        Ok(TypeRef::NonNull(Boxed::new(self.alloc, inner)?))
+    }
+
+    /// `DefaultValue?`
+    #[tactic(auto, unfolding(crate::specs::Reading::default_value))]
+    fn default_value(&mut self, room: u32) -> Result<Option<Literal>, Stop>
+        ensures { Gives (λ x. x) result (left self.new) (optional (is_mark 61) (default_value room) (left self.old)) }
+    {
+        if !self.next_is(b'=') {
+            return Ok(None);
+        }
+        self.mark(b'=')?;
+        Ok(Some(self.value(true, room)?))
+    }
+
+    /// `VariableDefinition`
+    #[tactic(auto, unfolding(crate::specs::Reading::variable_definition))]
+    fn variable_definition(&mut self, room: u32) -> Result<VariableDef, Stop>
+        ensures { Gives (λ x. x) result (left self.new) (variable_definition room (left self.old)) }
+    {
+        let dollar = self.mark(b'$')?;
+        let word = self.name()?;
+        self.mark(b':')?;
+        let kind = self.type_ref(room)?;
+        let default = self.default_value(room)?;
+        let directives = self.directives(true, room)?;
+        Ok(VariableDef {
+            name: self.text(word)?,
+            kind,
+            default,
+            directives,
+            spot: dollar.spot,
+        })
+    }
+
+    /// `VariableDefinitions?`
+    #[tactic(auto, unfolding(crate::specs::Reading::variable_definitions))]
+    pub(crate) fn variable_definitions(&mut self, room: u32) -> Result<Listed<VariableDef>, Stop>
+        ensures { Gives (λ x. x) result (left self.new) (variable_definitions room (left self.old)) }
+    {
+        if !self.next_is(b'(') {
+            return Ok(Listed::new(self.alloc));
+        }
+        self.mark(b'(')?;
+        self.require(self.next_is(b'$'))?;
+        let variables = self.some_variables(room)?;
+        self.mark(b')')?;
+        Ok(variables)
+    }
+
+    /// `VariableDefinition*`
+    fn some_variables(&mut self, room: u32) -> Result<Listed<VariableDef>, Stop>
+        ensures { Gives (λ x. x) result (left self.new) (many (is_mark 36) (variable_definition room) (left self.old)) }
+    {
+        let mut variables = Listed::new(self.alloc);
+        for _ in 0..self.count() {
+            if !self.next_is(b'$') {
+                return Ok(variables);
+            }
+            variables.push(self.variable_definition(room)?)?;
+        }
+        Ok(variables)
+    }
+}
