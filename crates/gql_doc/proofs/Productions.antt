@@ -23,6 +23,9 @@ use Rattle.gql_model.specs.declared.syntax.TypeRef.TheVariants as type
 use Rattle.gql_model.specs.declared.syntax.DirectiveUse.{DirectiveUse}
 use Rattle.gql_model.specs.declared.syntax.VariableDef.{VariableDef}
 use Rattle.gql_model.specs.declared.syntax.Selection.{Selection}
+use Rattle.gql_model.specs.declared.syntax.Selection.TheVariants as selection
+use Rattle.gql_model.specs.declared.syntax.InlineNode.{roll-InlineNode}
+use Rattle.gql_model.specs.declared.syntax.FieldNode.{roll-FieldNode}
 use Rattle.gql_model.specs.declared.syntax.Definition.{Definition}
 use Rattle.gql_model.specs.declared.syntax.Document.{Document}
 
@@ -491,3 +494,110 @@ variable_definitions-predictive n k = listed-predictive 40
       (some-predictive (is_mark 36) (marked 36) (λ t h. is_mark-has 36 t ∙ h) (λ t h. sym (is_mark-has 36 t) ∙ h) refl (variable_definition-predictive n k))
       (mark-predictive 41 refl refl) refl refl)
     (λ all. returns-predictive all.1) refl)
+
+-- ---- selections
+
+-- what begins with a phrase that passes a test begins so
+first_bind : {A B : Type 0} (test : Lexeme → Bool) (q : Phrase A) (f : A → Phrase B) → ((t : Lexeme) (ts : List Lexeme) (a : A) → q (t ∷ ts) a → test t ≡ true) → ((a : A) → q [] a → ⊥)
+    → (t : Lexeme) (ts : List Lexeme) (b : B) → phrase.◌>>=◌ q f (t ∷ ts) b → test t ≡ true
+first_bind test q f passes empty t ts b h = by h.1.front h.1.whole h.1.front_is
+  where
+    by : (front : List Lexeme) → t ∷ ts ≡ front ++ h.1.back → q front h.0 → test t ≡ true
+    by [] e is = absurd (empty h.0 is)
+    by (x ∷ front) e is = let same : t ≡ x = cc in ap test same ∙ passes x front h.0 is
+
+empty_bind : {A B : Type 0} (q : Phrase A) (f : A → Phrase B) → ((a : A) → q [] a → ⊥) → (b : B) → phrase.◌>>=◌ q f [] b → ⊥
+empty_bind q f empty b h = empty h.0 (subst (λ w. q w h.0) (nil_first h.1.front h.1.back h.1.whole) h.1.front_is)
+
+aliased-predictive : {n : ℕ} → Predictive n n grammar.aliased grammar.aliased reading.aliased (marked 58) no_tokens false
+aliased-predictive = bind-predictive (mark-predictive 58 refl refl) (λ _. name-predictive) refl
+
+a_word : List ℕ → Lexeme
+a_word text = a_token kind.Name text
+
+a_word_is : is_fragment_name (a_word (codes "a")) ≡ true
+unfolding a_token a_word
+a_word_is = refl
+
+on_is : is_word (codes "on") (a_word (codes "on")) ≡ true
+unfolding a_token a_word
+on_is = refl
+
+on-predictive : {n : ℕ} → Predictive n n grammar.type_condition grammar.type_condition reading.type_condition names no_tokens false
+on-predictive = bind-predictive (word-predictive (is_word (codes "on")) (a_word (codes "on")) on_is (word_is_name (codes "on"))) (λ _. name-predictive) refl
+
+one_token : (test : Lexeme → Bool) (t : Lexeme) (ts : List Lexeme) (a : Lexeme) → token test (t ∷ ts) a → test t ≡ true
+one_token test t ts a h = let same = h.0 in let is : t ≡ a = cc in ap test is ∙ h.1
+
+no_token : (test : Lexeme → Bool) (a : Lexeme) → token test [] a → ⊥
+no_token test a h = let no = h.0 in absurd cc
+
+condition_on : (t : Lexeme) (ts : List Lexeme) (a : Option Lexeme) → phrase.◌>>=◌ grammar.type_condition (λ word. returns (Some word)) (t ∷ ts) a → is_word (codes "on") t ≡ true
+condition_on = first_bind (is_word (codes "on")) grammar.type_condition (λ word. returns (Some word))
+    (first_bind (is_word (codes "on")) (token (is_word (codes "on"))) (λ _. grammar.name) (one_token (is_word (codes "on"))) (no_token (is_word (codes "on"))))
+    (empty_bind (token (is_word (codes "on"))) (λ _. grammar.name) (no_token (is_word (codes "on"))))
+
+condition-predictive : {n : ℕ} → Predictive n n (phrase.optional grammar.type_condition) (phrase.optional grammar.type_condition) (reading.optional reading.is_on reading.type_condition) names names true
+condition-predictive = pick-predictive reading.is_on names (bind-predictive on-predictive (λ word. returns-predictive (Some word)) refl) (returns-predictive None)
+    condition_on (λ t ts a h. let no = h.0 in absurd cc) (λ t h. sym (is_name-has t) ∙ word_is_name (codes "on") t h)
+
+not_both_names : (a b : Bool) → (a && b) ≡ true → (a && not b) ≡ false
+not_both_names true true h = refl
+not_both_names true false h = absurd cc
+not_both_names false b h = refl
+
+on_is_no_fragment : (t : Lexeme) → is_word (codes "on") t ≡ true → is_fragment_name t ≡ false
+on_is_no_fragment t h = not_both_names (is_name t) _ h
+
+and_none : (a b : Bool) → a ≡ false → (a && b) ≡ false
+and_none true b h = absurd cc
+and_none false b h = refl
+
+no_name_no_fragment : (t : Lexeme) → has (marks (64 ∷ 123 ∷ [])) t ≡ true → is_fragment_name t ≡ false
+no_name_no_fragment t h = and_none (is_name t) _ (is_name-has t ∙ disjoint-has (marks (64 ∷ 123 ∷ [])) names t refl h)
+
+module _ (n k : ℕ) (p q : Phrase (List Selection)) (r : Reader (List Selection)) (inner : Predictive n n p q r (marked 123) no_tokens false) where
+
+  field-predictive : Predictive n n (grammar.field (suc n) p) (grammar.field k q) (reading.field n r) names (marks (123 ∷ 64 ∷ 40 ∷ 40 ∷ 58 ∷ [])) false
+  unfolding reading.field
+  field-predictive =
+      bind-predictive name-predictive (λ first. bind-predictive (optional-predictive 58 aliased-predictive) (λ second. bind-predictive (arguments-predictive false n k) (λ given.
+        bind-predictive (directives-predictive false n k) (λ used. bind-predictive (listed-predictive 123 inner) (λ inside. returns-predictive _) refl) refl) refl) refl) refl
+
+  spread-predictive : Predictive n n (grammar.spread (suc n)) (grammar.spread k) (reading.spread n) names (marks (64 ∷ 40 ∷ [])) false
+  unfolding reading.spread
+  spread-predictive =
+      bind-predictive (word-predictive is_fragment_name (a_word (codes "a")) a_word_is fragment_name_is_name) (λ word. bind-predictive (directives-predictive false n k) (λ used. returns-predictive _) refl) refl
+
+  -- behind the type condition
+  abbrev behind_condition : ℕ → Phrase (List Selection) → Spot → Option Lexeme → Phrase Selection
+  behind_condition depth sets dots condition = phrase.◌>>=◌ (grammar.directives false depth) (λ used. phrase.◌>>=◌ sets (λ inside. returns (selection.Inline (roll-InlineNode (record { condition = grammar.condition_text condition; directives = used; selections = inside; spot = grammar.inline_spot dots condition })))))
+
+  behind-predictive : (dots : Spot) (condition : Option Lexeme) → Predictive n n (behind_condition (suc n) p dots condition) (behind_condition k q dots condition)
+      (reading.◌>>=◌ (reading.directives false n) (λ used. reading.◌>>=◌ r (λ inside. gives (selection.Inline (roll-InlineNode (record { condition = grammar.condition_text condition; directives = used; selections = inside; spot = grammar.inline_spot dots condition }))))))
+      (marks (64 ∷ 123 ∷ [])) no_tokens false
+  behind-predictive dots condition = bind-predictive (directives-predictive false n k) (λ used. bind-predictive inner (λ inside. returns-predictive _) refl) refl
+
+  inline-predictive : (dots : Spot) → Predictive n n (grammar.inline_fragment (suc n) p dots) (grammar.inline_fragment k q dots) (reading.inline_fragment n r dots) (union names (marks (64 ∷ 123 ∷ []))) no_tokens false
+  unfolding reading.inline_fragment
+  inline-predictive dots = bind-predictive condition-predictive (behind-predictive dots) refl
+
+  inline_no_name : (dots : Spot) (t : Lexeme) (ts : List Lexeme) (a : Selection) → grammar.inline_fragment k q dots (t ∷ ts) a → is_fragment_name t ≡ false
+  inline_no_name dots t ts a h = by h.1.front h.1.back h.1.whole h.1.front_is h.1.back_is
+    where
+      by : (front back : List Lexeme) → t ∷ ts ≡ front ++ back → phrase.optional grammar.type_condition front h.0 → behind_condition k q dots h.0 back a → is_fragment_name t ≡ false
+      by [] back e is more = no_name_no_fragment t ((behind-predictive dots h.0).begins t ts a (subst (λ w. behind_condition k q dots h.0 w a) (sym e) more))
+      by (x ∷ front) back e (inl is) more = let same : t ≡ x = cc in on_is_no_fragment t (ap (is_word (codes "on")) same ∙ condition_on x front h.0 is)
+      by (x ∷ front) back e (inr is) more = let no = is.0 in absurd cc
+
+  spread_name : (t : Lexeme) (ts : List Lexeme) (a : Selection) → grammar.spread k (t ∷ ts) a → is_fragment_name t ≡ true
+  spread_name = first_bind is_fragment_name (token is_fragment_name) _ (one_token is_fragment_name) (no_token is_fragment_name)
+
+  selection-predictive : Predictive n n (grammar.any_selection (suc n) p) (grammar.any_selection k q) (reading.any_selection n r) (union names (marked 46)) (marks (123 ∷ 64 ∷ 40 ∷ 40 ∷ 58 ∷ 64 ∷ 40 ∷ [])) false
+  unfolding reading.any_selection
+  selection-predictive = pick_first-predictive is_name is_name-has field-predictive
+      (bind-predictive (mark-predictive 46 refl refl) (λ dots.
+        pick-predictive is_fragment_name names spread-predictive (inline-predictive dots.spot) spread_name (inline_no_name dots.spot) (λ t h. sym (is_name-has t) ∙ fragment_name_is_name t h)) refl) refl
+
+begins_selection-has : (t : Lexeme) → reading.begins_selection t ≡ has (union names (marked 46)) t
+begins_selection-has t = (λ i. is_name-has t i || is_mark-has 46 t i) ∙ sym (has-union names (marked 46) t)

@@ -61,6 +61,13 @@ impl<'a> Lexer<'a> {
         }
     }
 
+    /// The place of the text's end.
+    pub fn end(&self) -> Spot
+        ensures { (passed : List ℕ) → Stands passed self.now → result ≡ spot_at (passed ++ left self.now) [] }
+    {
+        behind_all(self.spot, self.rest.as_bytes(), self.rest.len())
+    }
+
     /// Gives the token of `len` bytes that stands behind `blanks` bytes, and goes behind it.
     fn give(&mut self, blanks: usize, kind: TokenKind, len: usize) -> Token<'a>
         requires some { 0 < len }
