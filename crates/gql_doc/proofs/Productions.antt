@@ -1,6 +1,8 @@
 -- The parser's readers read the productions of the grammar, and stop where no document goes on.
 use Rattle.std.proofs.Common.{◌≡◌, ◌⊎◌, inl, inr, ℕ, zero, suc, Bool, true, false, ◌||◌, ◌&&◌, not, List, [], ◌∷◌, ◌++◌, Option, Some, None, refl, sym, ap, subst, ◌∙◌, codes}
 use Rattle.std.proofs.lemmas.Bool.{eq-eqb}
+use Rattle.std.specs.Str.{bytes_eq}
+use Rattle.std.proofs.lemmas.Slice.Eq.{bytes_eq-Decides}
 use Rattle.gql_tree.specs.declared.delivery.Spot.{Spot}
 use Rattle.gql_lex.specs.Tokens.{Lexeme}
 use Rattle.gql_lex.specs.declared.token.TokenKind.{TokenKind}
@@ -601,3 +603,133 @@ module _ (n k : ℕ) (p q : Phrase (List Selection)) (r : Reader (List Selection
 
 begins_selection-has : (t : Lexeme) → reading.begins_selection t ≡ has (union names (marked 46)) t
 begins_selection-has t = (λ i. is_name-has t i || is_mark-has 46 t i) ∙ sym (has-union names (marked 46) t)
+
+-- the selections of a set that nests at most so deep: none where there is none
+abbrev sets_within : ℕ → Phrase (Spot × List Selection)
+sets_within zero = never
+sets_within (suc depth) = grammar.selection_set (suc depth)
+
+a_field : Selection
+a_field = selection.Field (roll-FieldNode (record { alias = None; name = codes "a"; arguments = []; directives = []; selections = []; spot = record { line = 0; column = 0 } }))
+
+field_begun : (depth : ℕ) (sets : Phrase (List Selection)) → grammar.any_selection depth sets (a_word (codes "a") ∷ []) a_field
+unfolding a_token a_word a_field
+field_begun depth sets =
+    let word = a_word (codes "a") in
+    inl (word, record { front = word ∷ []; back = []; whole = refl; front_is = (refl, refl);
+      back_is = (None, record { front = []; back = []; whole = refl; front_is = inr (refl, refl);
+        back_is = ([], record { front = []; back = []; whole = refl; front_is = inr (refl, refl);
+          back_is = ([], record { front = []; back = []; whole = refl; front_is = refl;
+            back_is = ([], record { front = []; back = []; whole = refl; front_is = inr (refl, refl); back_is = (refl, refl) }) }) }) }) })
+
+set_begun : (t : Lexeme) → is_mark 123 t ≡ true → Begun (grammar.selection_set 1) (t ∷ [])
+set_begun t e =
+    let word = a_word (codes "a") in
+    let last = a_token kind.Punctuator (125 ∷ []) in
+    record { more = word ∷ last ∷ []; value = (t.spot, a_field ∷ []);
+      is = (t, record { front = t ∷ []; back = word ∷ last ∷ []; whole = refl; front_is = (refl, e);
+        back_is = (a_field ∷ [], record { front = word ∷ []; back = last ∷ []; whole = refl;
+          front_is = (a_field, record { front = word ∷ []; back = []; whole = refl; front_is = field_begun 0 _;
+            back_is = ([], record { front = []; back = []; whole = refl; front_is = refl; back_is = (refl, refl) }) });
+          back_is = (last, record { front = last ∷ []; back = []; whole = refl; front_is = (refl, mark_example 125); back_is = (refl, refl) }) }) }) }
+
+set_begun_none : Begun (grammar.selection_set 1) []
+set_begun_none =
+    let b = set_begun (a_token kind.Punctuator (123 ∷ [])) (mark_example 123) in
+    record { more = a_token kind.Punctuator (123 ∷ []) ∷ b.more; value = b.value; is = b.is }
+
+set_passes : (depth : ℕ) (t : Lexeme) (ts : List Lexeme) (a : Spot × List Selection) → grammar.selection_set depth (t ∷ ts) a → is_mark 123 t ≡ true
+set_passes zero t ts a h = absurd h
+set_passes (suc depth) t ts a h = mark_first (is_mark 123) (behind_first (phrase.some (grammar.any_selection depth (grammar.selections depth))) 125) t ts a h
+
+set_empty : (depth : ℕ) (a : Spot × List Selection) → grammar.selection_set depth [] a → ⊥
+set_empty zero a h = h
+set_empty (suc depth) a h = mark_empty (is_mark 123) (behind_first (phrase.some (grammar.any_selection depth (grammar.selections depth))) 125) a h
+
+selections_from : (n k : ℕ) → Predictive n n (grammar.selection_set (suc n)) (grammar.selection_set k) (reading.selection_set n) (marked 123) no_tokens false
+    → Predictive n n (grammar.selections (suc n)) (grammar.selections k) (reading.selections n) (marked 123) no_tokens false
+unfolding reading.selections
+selections_from n k set = bind-predictive set (λ it. returns-predictive it.1) refl
+
+set_from : (n k : ℕ) → Predictive n n (grammar.selection_set (suc n)) (grammar.selection_set k) (reading.selection_set n) (marked 123) no_tokens false
+    → Predictive (suc n) (suc n) (grammar.selection_set (suc (suc n))) (grammar.selection_set (suc k)) (reading.between 123 (reading.some reading.begins_selection (reading.any_selection n (reading.selections n))) 125) (marked 123) no_tokens false
+set_from n k set =
+    between-predictive false 123 125 (opens-predictive 123 brace_opens)
+      (some-predictive reading.begins_selection (union names (marked 46)) (λ t h. begins_selection-has t ∙ h) (λ t h. sym (begins_selection-has t) ∙ h) refl
+        (selection-predictive n k (grammar.selections (suc n)) (grammar.selections k) (reading.selections n) (selections_from n k set)))
+      (closes-predictive 125 refl brace_closes) refl refl
+
+selection_set-predictive : (n k : ℕ) → Predictive n n (grammar.selection_set (suc n)) (grammar.selection_set k) (reading.selection_set n) (marked 123) no_tokens false
+unfolding reading.selection_set reading.selections
+selection_set-predictive zero k = shut-predictive (grammar.selection_set 1) (grammar.selection_set k) (is_mark 123) (marked 123) set_begun_none
+    (set_empty 1) (set_empty k) (λ t h. (brace_opens t h, set_begun t h)) (set_passes k) (λ t h. sym (is_mark-has 123 t) ∙ h)
+selection_set-predictive (suc n) (suc k) = set_from n k (selection_set-predictive n k)
+selection_set-predictive (suc n) zero = other-predictive (grammar.selection_set (suc (suc n))) never (λ tokens a h. h) (λ tokens a h. h) (λ tokens a h. absurd h)
+    (set_from n zero (selection_set-predictive n zero))
+
+selections-predictive : (n k : ℕ) → Predictive n n (grammar.selections (suc n)) (grammar.selections k) (reading.selections n) (marked 123) no_tokens false
+selections-predictive n k = selections_from n k (selection_set-predictive n k)
+
+-- ---- definitions
+
+short-predictive : (n k : ℕ) → Predictive n n (grammar.short_operation (suc n)) (grammar.short_operation k) (reading.short_operation n) (marked 123) no_tokens false
+unfolding reading.short_operation
+short-predictive n k = bind-predictive (selection_set-predictive n k) (λ set. returns-predictive _) refl
+
+query_is : is_operation_type (a_word (codes "query")) ≡ true
+unfolding a_token a_word
+query_is = refl
+
+fragment_is : is_word (codes "fragment") (a_word (codes "fragment")) ≡ true
+unfolding a_token a_word
+fragment_is = refl
+
+name_optional-predictive : {n : ℕ} → Predictive n n (phrase.optional grammar.name) (phrase.optional grammar.name) (reading.optional is_name reading.name) names names true
+name_optional-predictive = pick_first-predictive is_name is_name-has (bind-predictive name-predictive (λ word. returns-predictive (Some word)) refl) (returns-predictive None) refl
+
+operation-predictive : (n k : ℕ) → Predictive n n (grammar.operation_definition (suc n)) (grammar.operation_definition k) (reading.operation_definition n) names no_tokens false
+unfolding reading.operation_definition
+operation-predictive n k =
+    bind-predictive (word-predictive is_operation_type (a_word (codes "query")) query_is type_is_name) (λ kind. bind-predictive name_optional-predictive (λ word. bind-predictive (variable_definitions-predictive n k) (λ variables.
+      bind-predictive (directives-predictive false n k) (λ used. bind-predictive (selections-predictive n k) (λ inside. returns-predictive _) refl) refl) refl) refl) refl
+
+fragment-predictive : (n k : ℕ) → Predictive n n (grammar.fragment_definition (suc n)) (grammar.fragment_definition k) (reading.fragment_definition n) names no_tokens false
+unfolding reading.fragment_definition
+fragment-predictive n k =
+    bind-predictive (word-predictive (is_word (codes "fragment")) (a_word (codes "fragment")) fragment_is (word_is_name (codes "fragment"))) (λ _. bind-predictive (word-predictive is_fragment_name (a_word (codes "a")) a_word_is fragment_name_is_name) (λ word.
+      bind-predictive on-predictive (λ condition. bind-predictive (directives-predictive false n k) (λ used. bind-predictive (selections-predictive n k) (λ inside. returns-predictive _) refl) refl) refl) refl) refl
+
+operation_first : (k : ℕ) (t : Lexeme) (ts : List Lexeme) (a : Definition) → grammar.operation_definition k (t ∷ ts) a → is_operation_type t ≡ true
+operation_first k = first_bind is_operation_type (token is_operation_type) _ (one_token is_operation_type) (no_token is_operation_type)
+
+fragment_first : (k : ℕ) (t : Lexeme) (ts : List Lexeme) (a : Definition) → grammar.fragment_definition k (t ∷ ts) a → is_word (codes "fragment") t ≡ true
+fragment_first k = first_bind (is_word (codes "fragment")) (token (is_word (codes "fragment"))) _ (one_token (is_word (codes "fragment"))) (no_token (is_word (codes "fragment")))
+
+and_second : (a b : Bool) → (a && b) ≡ true → b ≡ true
+and_second true b h = h
+and_second false b h = absurd cc
+
+-- a token's text where it is a word
+word_text : (word : List ℕ) (t : Lexeme) → is_word word t ≡ true → t.text ≡ word
+word_text word t h = (bytes_eq-Decides t.text word).0 (and_second (is_name t) _ h)
+
+both_false : (a : Bool) → (a && false) || ((a && false) || (a && false)) ≡ false
+both_false true = refl
+both_false false = refl
+
+fragment_no_type : (t : Lexeme) → is_word (codes "fragment") t ≡ true → is_operation_type t ≡ false
+fragment_no_type t h =
+    (λ i. (is_name t && bytes_eq (word_text (codes "fragment") t h i) (codes "query")) || ((is_name t && bytes_eq (word_text (codes "fragment") t h i) (codes "mutation")) || (is_name t && bytes_eq (word_text (codes "fragment") t h i) (codes "subscription"))))
+    ∙ both_false (is_name t)
+
+definition-predictive : (n k : ℕ) → Predictive n n (grammar.any_definition (suc n)) (grammar.any_definition k) (reading.any_definition n) (union (marked 123) names) no_tokens false
+unfolding reading.any_definition
+definition-predictive n k = pick_first-predictive (is_mark 123) (is_mark-has 123) (short-predictive n k)
+    (pick-predictive is_operation_type names (operation-predictive n k) (fragment-predictive n k) (operation_first k) (λ t ts a h. fragment_no_type t (fragment_first k t ts a h)) (λ t h. sym (is_name-has t) ∙ type_is_name t h)) refl
+
+-- ---- documents
+
+pub document-predictive : (n k : ℕ) → Predictive n n (grammar.document (suc n)) (grammar.document k) (reading.document n) (union (marked 123) names) all_tokens false
+unfolding reading.document
+document-predictive n k =
+    bind-predictive (some-predictive reading.is_any all_tokens (λ t h. refl) (λ t h. refl) refl (definition-predictive n k)) (λ all. returns-predictive (record { definitions = all })) refl

@@ -6,3 +6,4 @@ pub mod Nesting
 pub mod Answer
 pub mod Reading
 pub mod Left
+pub mod TextEnds

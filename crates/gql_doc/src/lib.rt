@@ -12,6 +12,7 @@ mod quoted_string;
 mod refusal;
 mod selections;
 mod string_token;
+mod tokens;
 mod values;
 mod variables;
 #[cfg(test)]
