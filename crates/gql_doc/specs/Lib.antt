@@ -1,4 +1,5 @@
 pub mod StringValue
+pub mod Quoting
 pub mod Phrase
 pub mod Marks
 pub mod Grammar
