@@ -1,7 +1,9 @@
 pub mod Answers
 pub mod Determined
 pub mod Found
+pub mod Fronts
 pub mod Longest
 pub mod Places
 pub mod Runs
+pub mod Texts
 pub mod Written
