@@ -1,3 +1,6 @@
 pub mod Quoted
 pub mod Blocks
 pub mod Quoting
+pub mod Pieces
+pub mod QuotedFront
+pub mod Spaced

@@ -1,9 +1,11 @@
 pub mod Answers
+pub mod Contents
 pub mod Determined
 pub mod Found
 pub mod Fronts
 pub mod Longest
 pub mod Places
 pub mod Runs
+pub mod Steps
 pub mod Texts
 pub mod Written
