@@ -4,3 +4,5 @@ pub mod Quoting
 pub mod Pieces
 pub mod QuotedFront
 pub mod Spaced
+pub mod Values
+pub mod Written

@@ -78,11 +78,11 @@ ascii_printed = by_way (λ b printed. b < 128 → AreAscii printed)
     (λ b small h. (lit< tt, (lit< tt, (lit< tt, (lit< tt, (hex_small (b / 16) (omega arith), (hex_small (b % 16) (omega arith), tt)))))))
     (λ b low not_quote not_backslash h. (h, tt))
 
-encodes_ascii : (xs : List ℕ) → AreAscii xs → encodes xs ≡ xs
+pub encodes_ascii : (xs : List ℕ) → AreAscii xs → encodes xs ≡ xs
 encodes_ascii [] h = refl
 encodes_ascii (x ∷ xs) h = ap (λ l. l ++ encodes xs) (encode_ascii x h.0) ∙ ap (λ l. x ∷ l) (encodes_ascii xs h.1)
 
-scalars_ascii : (xs : List ℕ) → AreAscii xs → scalars xs ≡ true
+pub scalars_ascii : (xs : List ℕ) → AreAscii xs → scalars xs ≡ true
 scalars_ascii [] h = refl
 scalars_ascii (x ∷ xs) h = and_from (scalar x) (scalars xs) (low_scalar x (let small = h.0 in omega arith)) (scalars_ascii xs h.1)
 
