@@ -1,5 +1,5 @@
 -- A string that is printed reads back.
-use Rattle.std.proofs.Common.{◌≡◌, ◌≢◌, ℕ, suc, ◌+◌, ◌-◌, ◌/◌, ◌%◌, ◌<◌, ◌≤◌, ◌==◌, nat_lt, Bool, true, false, ◌&&◌, ◌||◌, lit<, List, [], ◌∷◌, ◌++◌, length, get_or, flat_map, IsUtf8, inl, inr, refl, ap, sym, ◌∙◌, subst, append_assoc, arith}
+use Rattle.std.proofs.Common.{◌≡◌, ◌≢◌, ℕ, suc, ◌+◌, ◌-◌, ◌/◌, ◌%◌, ◌<◌, ◌≤◌, ◌==◌, nat_lt, Bool, true, false, ◌&&◌, ◌||◌, lit<, List, [], ◌∷◌, ◌++◌, length, get_or, flat_map, IsUtf8, inl, inr, refl, ap, sym, ◌∙◌, subst, arith}
 use Rattle.std.specs.Prelude.{nat_le}
 use Rattle.std.specs.Str.{chars, encode_utf8_all}
 use Rattle.std.specs.Char.Utf16.{is_high_surrogate}
@@ -8,6 +8,7 @@ use Rattle.std.proofs.lemmas.Bool.{agree_below_at, cond_both, cond-true, cond-fa
 use Rattle.std.proofs.lemmas.Bool.Decides.{nat_tests}
 use Rattle.std.proofs.lemmas.List.{append-nil, take_at, length_push}
 use Rattle.std.proofs.lemmas.Str.{chars-encodes, encodes-append, encode_ascii, inside_one}
+use Rattle.std.proofs.lemmas.Grind.{flat_map-append}
 use lib.Utf8.{scalar, scalars, encode, encodes, low_scalar}
 use Rattle.gql_lex.specs.declared.token.TokenKind.TheVariants as kind
 use Rattle.gql_doc.specs.StringValue.{unit, character, unicode, escape, quoted_value, between, value, string_value}
@@ -109,10 +110,6 @@ char_printed c = elim (cases_lt c 128) [
   | inl small ↦ ap (flat_map quoted_byte) (encode_ascii c small) ∙ append-nil (quoted_byte c) ∙ sym (encodes_ascii (quoted_byte c) (ascii_printed c small))
   | inr big ↦ high_printed (encode c) (encode_high c big) ∙ sym (append-nil (encode c)) ∙ ap encodes (sym (high_plain c big))
 ]
-
-flat_map-append : (f : ℕ → List ℕ) (xs ys : List ℕ) → flat_map f (xs ++ ys) ≡ flat_map f xs ++ flat_map f ys
-flat_map-append f [] ys = refl
-flat_map-append f (x ∷ xs) ys = ap (λ l. f x ++ l) (flat_map-append f xs ys) ∙ sym (append_assoc (f x) (flat_map f xs) (flat_map f ys))
 
 all_printed : (cs : List ℕ) → flat_map quoted_byte (encodes cs) ≡ encodes (flat_map quoted_byte cs)
 all_printed [] = refl

@@ -1,7 +1,8 @@
 -- What the lexer gives is written, and what is written is UTF-8.
-use Rattle.std.proofs.Common.{◌≡◌, ℕ, ◌<◌, ◌==◌, Bool, true, false, inl, inr, List, [], ◌∷◌, flat_map, IsUtf8, sym, subst, lit<, arith}
+use Rattle.std.proofs.Common.{◌≡◌, ℕ, ◌<◌, ◌==◌, Bool, true, false, inl, inr, List, [], ◌∷◌, flat_map, IsUtf8, refl, sym, subst, lit<, arith}
 use Rattle.std.specs.List.{AllByRecursion}
 use Rattle.std.specs.Char.{is_ascii_digit}
+use Rattle.std.proofs.lemmas.Bool.{eqb-true}
 use Rattle.std.proofs.lemmas.Bool.Decides.{nat_tests}
 use Rattle.std.proofs.lemmas.Str.{IsUtf8-append, IsUtf8-nil}
 use Rattle.gql_lex.specs.declared.token.TokenKind.{TokenKind}
@@ -10,8 +11,9 @@ use Rattle.gql_lex.specs.Classes.{begins_name, continues_name, is_mark}
 use Rattle.gql_lex.specs.Longest.{Each, IsName, IsMinus, IsWhole}
 use Rattle.gql_lex.specs.Tokens.{Lexeme, End, Lexes}
 use Rattle.gql_lex.proofs.Lexing.{IsRight, tokens-right}
-use Rattle.gql_lex.proofs.Texts.{IsPunctuator, IsPlain}
-use Rattle.gql_doc.specs.Marks.{class_of, is_string}
+use Rattle.gql_lex.proofs.Texts.{IsInteger, IsPunctuator, IsPlain}
+use Rattle.gql_doc.specs.Marks.{class_of, is_name, is_number, is_string}
+use Rattle.gql_doc.specs.Quoting.{quoted_text}
 use Rattle.gql_doc.specs.Pieces.{Piece, piece, spaced}
 use Rattle.gql_doc.proofs.Pieces.{IsText, IsWritten}
 use Rattle.gql_doc.proofs.Quoting.{AreAscii, encodes_ascii, scalars_ascii, IsUtf8-quoted_text}
@@ -35,6 +37,41 @@ tokens-written text tokens end lexes = each tokens (tokens-right [] text tokens 
     each : (tokens : List Lexeme) → AllByRecursion IsRight tokens → AllByRecursion (λ (token : Lexeme). is_string token ≡ false → IsWritten (piece token)) tokens
     each [] are = tt
     each (token ∷ tokens) are = (token-written token are.0, each tokens are.1)
+
+-- ---- what the grammar takes
+
+is_class : (kind : TokenKind) (text : List ℕ) (n : ℕ) → (class_of kind text == n) ≡ true → class_of kind text ≡ n
+is_class kind text n is = eqb-true (class_of kind text) n is
+
+-- no punctuator begins with a byte this small
+begins_high : (text : List ℕ) → IsPunctuator text → 3 < class_of kind.Punctuator text
+begins_high text (inl is) = subst (λ xs. 3 < class_of kind.Punctuator xs) (sym is.2) (let mark = is.1 in grind (arith, nat_tests))
+begins_high text (inr is) = subst (λ xs. 3 < class_of kind.Punctuator xs) (sym is) (lit< tt)
+
+name_by : (kind : TokenKind) (text : List ℕ) → IsPlain kind text → class_of kind text ≡ 0 → IsName text
+name_by kind.Name text is class = is
+name_by kind.Int text is class = absurd (cc)
+name_by kind.Punctuator text is class = absurd (let high = begins_high text is in omega arith)
+name_by kind.Quoted text is class = absurd (cc)
+name_by kind.Block text is class = absurd (cc)
+
+number_by : (kind : TokenKind) (text : List ℕ) → IsPlain kind text → class_of kind text ≡ 1 → IsInteger text
+number_by kind.Name text is class = absurd (cc)
+number_by kind.Int text is class = is
+number_by kind.Punctuator text is class = absurd (let high = begins_high text is in omega arith)
+number_by kind.Quoted text is class = absurd (cc)
+number_by kind.Block text is class = absurd (cc)
+
+-- a token that the grammar takes for a name is written as one, and likewise a number
+pub name-written : (token : Lexeme) → IsRight token → is_name token ≡ true → IsWritten (record { kind = kind.Name; text = token.text })
+name-written token is taken = name_by token.kind token.text is (is_class token.kind token.text 0 taken)
+
+pub number-written : (token : Lexeme) → IsRight token → is_number token ≡ true → IsWritten (record { kind = kind.Int; text = token.text })
+number-written token is taken = number_by token.kind token.text is (is_class token.kind token.text 1 taken)
+
+-- the value of a string is written as a string
+pub string-written : (value : List ℕ) → IsUtf8 value → IsWritten (record { kind = kind.Quoted; text = quoted_text value })
+string-written value utf8 = record { value = value; is_utf8 = utf8; is = refl }
 
 -- ---- what is written
 

@@ -4,6 +4,7 @@
 #![tactic(auto)]
 
 mod block_string;
+mod laws;
 mod parsing;
 mod quoted_string;
 mod refusal;
@@ -11,6 +12,7 @@ mod string_token;
 #[cfg(test)]
 mod tests;
 
+pub use laws::a_printed_string_reads_back;
 pub use parsing::parse;
 pub use refusal::ParseRefusal;
 pub use string_token::string_value;
