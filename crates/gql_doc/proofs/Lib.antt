@@ -5,3 +5,9 @@ pub mod Loops
 pub mod Sets
 pub mod Predictive
 pub mod Productions
+pub mod Quoting
+pub mod Pieces
+pub mod QuotedFront
+pub mod Spaced
+pub mod Values
+pub mod Written

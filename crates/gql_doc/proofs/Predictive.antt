@@ -352,10 +352,10 @@ bind_begins q g F1 F2 e1 first blank second t ts (x ∷ u) v a b h one two =
 -- behind the first part stands the second, or what stands behind both
 bind_clear : {A B : Type 0} (g : A → Phrase B) (F2 N1 N2 : Set) (e2 : Bool)
     → ((a : A) (t : Lexeme) (ts : List Lexeme) (b : B) → g a (t ∷ ts) b → has F2 t ≡ true) → ((a : A) (b : B) → g a [] b → e2 ≡ true)
-    → disjoint F2 N1 ≡ true
+    → ((t : Lexeme) → has F2 t ≡ true → has N1 t ≡ false)
     → (v rest : List Lexeme) (a : A) (b : B) → g a v b → Clear (union N2 (only_if e2 N1)) rest → Clear N1 (v ++ rest)
 bind_clear g F2 N1 N2 e2 second blank apart [] rest a b two clear = clear_only e2 N1 rest (blank a b two) (clear_right N2 (only_if e2 N1) rest clear)
-bind_clear g F2 N1 N2 e2 second blank apart (t ∷ v) rest a b two clear = disjoint-has F2 N1 t apart (second a t v b two)
+bind_clear g F2 N1 N2 e2 second blank apart (t ∷ v) rest a b two clear = apart t (second a t v b two)
 
 bind_reads : {A B : Type 0} (r : Reader A) (s : A → Reader B) (tokens rest : List Lexeme) (a : A) (b : B)
     → Reads (r tokens) a rest → (after : List Lexeme) → Reads (s a rest) b after → Reads (behind (r tokens) s) b after
@@ -384,10 +384,10 @@ bind_err {s = s} one two shrinks u v rest other why (Ok x) same e h =
 bind_err {s = s} one two shrinks u v rest other why (Err y) same e h =
     ap (λ y. behind y s) (one.err u v rest other why same (e ∙ (λ i. Err (same_why h i, same_stop h i))))
 
-pub bind-predictive : {A B : Type 0} {n m k : ℕ} {p q : Phrase A} {f g : A → Phrase B} {r : Reader A} {s : A → Reader B} {F1 N1 F2 N2 : Set} {e1 e2 : Bool}
-    → Predictive n m p q r F1 N1 e1 → ((a : A) → Predictive m k (f a) (g a) (s a) F2 N2 e2) → disjoint F2 N1 ≡ true
+pub bind_apart-predictive : {A B : Type 0} {n m k : ℕ} {p q : Phrase A} {f g : A → Phrase B} {r : Reader A} {s : A → Reader B} {F1 N1 F2 N2 : Set} {e1 e2 : Bool}
+    → Predictive n m p q r F1 N1 e1 → ((a : A) → Predictive m k (f a) (g a) (s a) F2 N2 e2) → ((t : Lexeme) → has F2 t ≡ true → has N1 t ≡ false)
     → Predictive n k (phrase.◌>>=◌ p f) (phrase.◌>>=◌ q g) (reading.◌>>=◌ r s) (union F1 (only_if e1 F2)) (union N2 (only_if e2 N1)) (e1 && e2)
-bind-predictive {n = n} {m = m} {p = p} {q = q} {f = f} {g = g} {r = r} {s = s} {F1 = F1} {N1 = N1} {F2 = F2} {N2 = N2} {e1 = e1} {e2 = e2} one two apart = record {
+bind_apart-predictive {n = n} {m = m} {p = p} {q = q} {f = f} {g = g} {r = r} {s = s} {F1 = F1} {N1 = N1} {F2 = F2} {N2 = N2} {e1 = e1} {e2 = e2} one two apart = record {
   found = λ tokens rest b h. bind_found one.found (λ a. (two a).found) tokens rest b (r tokens) refl h;
   stopped = λ tokens rest why h. bind_stopped n m p f one.found one.stopped (λ a. (two a).stopped) (λ a. (two a).begun) tokens rest why (r tokens) refl h;
   begun = begun_first [] one.begun (λ a. (two a).begun);
@@ -407,6 +407,11 @@ bind-predictive {n = n} {m = m} {p = p} {q = q} {f = f} {g = g} {r = r} {s = s} 
     err = λ u v rest other why same h. bind_err one.local (λ a. (two a).local) (λ a tokens rest why h. let stops = (two a).stopped tokens rest why h in (stops.done, stops.whole)) u v rest other why (r (u ++ rest)) same refl h;
   };
 }
+
+pub bind-predictive : {A B : Type 0} {n m k : ℕ} {p q : Phrase A} {f g : A → Phrase B} {r : Reader A} {s : A → Reader B} {F1 N1 F2 N2 : Set} {e1 e2 : Bool}
+    → Predictive n m p q r F1 N1 e1 → ((a : A) → Predictive m k (f a) (g a) (s a) F2 N2 e2) → disjoint F2 N1 ≡ true
+    → Predictive n k (phrase.◌>>=◌ p f) (phrase.◌>>=◌ q g) (reading.◌>>=◌ r s) (union F1 (only_if e1 F2)) (union N2 (only_if e2 N1)) (e1 && e2)
+bind-predictive {N1 = N1} {F2 = F2} one two apart = bind_apart-predictive one two (λ t h. disjoint-has F2 N1 t apart h)
 
 -- ---- one of two
 

@@ -16,7 +16,7 @@ use Rattle.gql_doc.specs.StringValue.{string_value}
 use Rattle.gql_doc.specs.Marks.{is_mark, is_name, is_number, is_string, is_word, is_fragment_name, is_operation_type, is_opening, is_closing}
 use Rattle.gql_doc.specs.Nesting.{room_behind, taken}
 use Rattle.gql_doc.proofs.Sets.{Set, no_tokens, marked, names, numbers, strings, all_tokens, union, only_if, has, disjoint, disjoint-has, has-union, or_left, or_right, is_mark-has, is_name-has, is_number-has, is_string-has}
-use Rattle.gql_doc.proofs.Predictive.{Begun, Predictive, returns-predictive, token-predictive, bind-predictive, pick-predictive, pick_first-predictive, other-predictive, shut-predictive, many-predictive, some-predictive, forbid-predictive}
+use Rattle.gql_doc.proofs.Predictive.{Begun, Predictive, returns-predictive, token-predictive, bind-predictive, bind_apart-predictive, pick-predictive, pick_first-predictive, other-predictive, shut-predictive, many-predictive, some-predictive, forbid-predictive}
 use Rattle.gql_model.specs.declared.syntax.Literal.{Literal}
 use Rattle.gql_model.specs.declared.syntax.Literal.TheVariants as literal
 use Rattle.gql_model.specs.declared.syntax.Argument.{Argument, roll-Argument}
@@ -732,4 +732,5 @@ definition-predictive n k = pick_first-predictive (is_mark 123) (is_mark-has 123
 pub document-predictive : (n k : ℕ) → Predictive n n (grammar.document (suc n)) (grammar.document k) (reading.document n) (union (marked 123) names) all_tokens false
 unfolding reading.document
 document-predictive n k =
-    bind-predictive (some-predictive reading.is_any all_tokens (λ t h. refl) (λ t h. refl) refl (definition-predictive n k)) (λ all. returns-predictive (record { definitions = all })) refl
+    bind_apart-predictive (some-predictive reading.is_any all_tokens (λ t h. refl) (λ t h. refl) refl (definition-predictive n k)) (λ all. returns-predictive (record { definitions = all }))
+    (λ t h. let no = disjoint-has no_tokens no_tokens t refl h in absurd cc)

@@ -5,6 +5,7 @@
 
 mod block_string;
 mod definitions;
+mod laws;
 mod marks;
 mod parser;
 mod parsing;
@@ -18,6 +19,7 @@ mod variables;
 #[cfg(test)]
 mod tests;
 
+pub use laws::a_printed_string_reads_back;
 pub use parsing::parse;
 pub use refusal::ParseRefusal;
 pub use string_token::string_value;

@@ -1,6 +1,6 @@
 //! Laws of the definitions, each the contract of a function that does nothing.
 
-ghost use Rattle.std.specs.Prelude.{◌≡◌, ◌≢◌, ◌<◌, ℕ, ◌+◌, List, ◌∷◌, ◌++◌, take, true};
+ghost use Rattle.std.specs.Prelude.{◌≡◌, ◌≢◌, ◌<◌, ℕ, ◌+◌, List, [], ◌∷◌, ◌++◌, take, true};
 ghost use Rattle.std.specs.List.{prefix_len};
 ghost use Rattle.gql_lex.specs.Classes.{begins_name, continues_name};
 ghost use Rattle.gql_lex.specs.Longest.{IsName, IsNumber, NoneIsLonger};
@@ -10,6 +10,11 @@ ghost use Rattle.gql_lex.specs.Tokens.{Lexeme, End, Lexes};
 /// The tokens of a text, and how they end, are determined.
 pub fn tokens_are_determined()
     ensures { (passed rest : List ℕ) → (ts us : List Lexeme) → (s e : End) → Lexes passed rest ts s → Lexes passed rest us e → (ts ≡ us) × (s ≡ e) }
+{}
+
+/// Every text has tokens, and an end to them.
+pub fn every_text_has_tokens()
+    ensures { (text : List ℕ) → (tokens : List Lexeme) × (end : End) × Lexes [] text tokens end }
 {}
 
 /// The name that is counted at the front of a text is a name, and none there is longer. So is the

@@ -1,6 +1,6 @@
 //! The lexer.
 
-ghost use Rattle.std.specs.Prelude.{◌≡◌, ℕ, List, [], ◌++◌, ◌+◌, ◌<◌, ◌≤◌, ◌-◌, length, take, drop, slice_index, IfOk, IfNone, OnErr};
+ghost use Rattle.std.specs.Prelude.{◌≡◌, ℕ, List, [], ◌++◌, ◌+◌, ◌<◌, ◌≤◌, ◌-◌, length, take, drop, slice_index, IfOk, IfSome, IfNone, OnErr};
 ghost use Rattle.gql_lex.specs.Places.{spot_at};
 
 use crate::place::behind_all;
@@ -46,6 +46,7 @@ impl<'a> Lexer<'a> {
         ensures stands { (passed : List ℕ) → Stands passed self.old →
             Stands (passed ++ take (done_with (left self.old)) (left self.old)) self.new }
         ensures left { left self.new ≡ drop (done_with (left self.old)) (left self.old) }
+        ensures shorter { IfOk result (λ token. IfSome token (λ _. length (left self.new) < length (left self.old))) }
         ensures ended { IfOk result (λ token. IfNone token (self.new ≡ self.old)) }
         ensures refused { OnErr result (self.new ≡ self.old) }
     {
@@ -80,6 +81,7 @@ impl<'a> Lexer<'a> {
         ensures spot { (passed : List ℕ) → self.old.spot ≡ spot_at passed self.old.rest.now →
             result.spot ≡ spot_at (passed ++ take blanks self.old.rest.now) (drop blanks self.old.rest.now) }
         ensures rest { self.new.rest.now ≡ drop (blanks + len) self.old.rest.now }
+        ensures shorter { length self.new.rest.now < length self.old.rest.now }
         ensures behind { self.new.start ≡ self.old.start + (blanks + len) }
         ensures place { (passed : List ℕ) → self.old.spot ≡ spot_at passed self.old.rest.now →
             self.new.spot ≡ spot_at (passed ++ take (blanks + len) self.old.rest.now) (drop (blanks + len) self.old.rest.now) }
