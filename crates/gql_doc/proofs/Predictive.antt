@@ -513,7 +513,7 @@ pick_reads q1 q2 r s N1 N2 T e2 test one two solid blank passes fails covers [] 
 pick_reads q1 q2 r s N1 N2 T e2 test one two solid blank passes fails covers (t ∷ tokens) rest a (inr h) clear =
     subst (λ x. Reads x a rest) (sym (pick_no test r s (t ∷ (tokens ++ rest)) (fails t tokens a h))) (two (t ∷ tokens) rest a h (clear_left N2 (only_if e2 T) rest (clear_right N1 (union N2 (only_if e2 T)) rest clear)))
 
-false_true : {A : Type 0} → (let x : Bool = false in let y : Bool = true in x ≡ y) → A
+pub false_true : {A : Type 0} → (let x : Bool = false in let y : Bool = true in x ≡ y) → A
 false_true h = absurd cc
 
 pub pick-predictive : {A : Type 0} {n m : ℕ} {p1 p2 q1 q2 : Phrase A} {r s : Reader A} {F1 N1 F2 N2 : Set} {e2 : Bool} (test : Lexeme → Bool) (T : Set)
@@ -770,6 +770,26 @@ module _ {A : Type 0} (p : Phrase A) (r : Reader A) (test : Lexeme → Bool) (n 
       by : (used : List Lexeme) → tokens ≡ used ++ rest → p used a → length rest ≤ f
       by [] e is = absurd (solid a is)
       by (t ∷ used) e is = omega (arith, ap length e, length-append used rest)
+
+  -- behind all, the next token doesn't pass
+  ends_turn : (f : ℕ) → ((tokens rest : List Lexeme) (vs : List A) → length tokens ≤ f → reading.many_at f test r tokens ≡ Ok (vs, rest) → next_is test rest ≡ false)
+      → (tokens rest : List Lexeme) (vs : List A) (x : Reading A) (y : Reading (List A)) → length tokens ≤ suc f → r tokens ≡ x → reading.many_at f test r (rest_in x) ≡ y
+      → behind x (more_by (reading.many_at f test r)) ≡ Ok (vs, rest) → next_is test rest ≡ false
+  unfolding rest_in
+  ends_turn f others tokens rest vs (Err e) y le reads turn h = absurd cc
+  ends_turn f others tokens rest vs (Ok x) (Err e) le reads turn h = let no = sym (ap (λ w. behind w (λ bs. gives (x.0 ∷ bs))) turn) ∙ h in absurd cc
+  ends_turn f others tokens rest vs (Ok x) (Ok y) le reads turn h =
+      let done = sym (ap (λ w. behind w (λ bs. gives (x.0 ∷ bs))) turn) ∙ h in
+      others x.1 rest y.0 (shorter tokens x.1 x.0 f le reads) (turn ∙ (λ i. Ok (y.0, same_rest done i)))
+
+  ends_by : (f : ℕ) → ((tokens rest : List Lexeme) (vs : List A) → length tokens ≤ f → reading.many_at f test r tokens ≡ Ok (vs, rest) → next_is test rest ≡ false)
+      → (tokens rest : List Lexeme) (vs : List A) (b : Bool) → length tokens ≤ suc f → next_is test tokens ≡ b → reading.many_at (suc f) test r tokens ≡ Ok (vs, rest) → next_is test rest ≡ false
+  ends_by f others tokens rest vs true le e h = ends_turn f others tokens rest vs (r tokens) (reading.many_at f test r (rest_in (r tokens))) le refl refl (sym (many_yes test r f tokens e) ∙ h)
+  ends_by f others tokens rest vs false le e h = ap (next_is test) (sym (same_rest (sym (many_no test r (suc f) tokens e) ∙ h))) ∙ e
+
+  pub many_ends : (f : ℕ) (tokens rest : List Lexeme) (vs : List A) → length tokens ≤ f → reading.many_at f test r tokens ≡ Ok (vs, rest) → next_is test rest ≡ false
+  many_ends zero tokens rest vs le h = ap (next_is test) (sym (same_rest h) ∙ at_most_none tokens le)
+  many_ends (suc f) tokens rest vs le h = ends_by f (many_ends f) tokens rest vs (next_is test tokens) le refl h
 
   -- what the turn after the first leaves
   many_used : (f : ℕ) (tokens rest : List Lexeme) (vs : List A) → reading.many_at f test r tokens ≡ Ok (vs, rest) → (u : List Lexeme) × (tokens ≡ u ++ rest)

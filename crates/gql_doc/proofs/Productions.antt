@@ -1,5 +1,5 @@
 -- The parser's readers read the productions of the grammar, and stop where no document goes on.
-use Rattle.std.proofs.Common.{◌≡◌, ◌⊎◌, inl, inr, ℕ, zero, suc, Bool, true, false, ◌||◌, ◌&&◌, not, List, [], ◌∷◌, ◌++◌, Option, Some, None, refl, sym, ap, subst, ◌∙◌, codes}
+use Rattle.std.proofs.Common.{◌≡◌, ◌⊎◌, inl, inr, ℕ, zero, suc, Bool, true, false, ◌||◌, ◌&&◌, not, List, [], ◌∷◌, ◌++◌, Option, Some, None, length, Ok, Err, refl, sym, ap, subst, ◌∙◌, codes, arith}
 use Rattle.std.proofs.lemmas.Bool.{eq-eqb}
 use Rattle.std.specs.Str.{bytes_eq}
 use Rattle.std.proofs.lemmas.Slice.Eq.{bytes_eq-Decides}
@@ -15,8 +15,9 @@ use Rattle.gql_doc.specs.Reading as reading
 use Rattle.gql_doc.specs.StringValue.{string_value}
 use Rattle.gql_doc.specs.Marks.{is_mark, is_name, is_number, is_string, is_word, is_fragment_name, is_operation_type, is_opening, is_closing}
 use Rattle.gql_doc.specs.Nesting.{room_behind, taken}
+use Rattle.gql_doc.specs.declared.parser.Stop.TheVariants as stop
 use Rattle.gql_doc.proofs.Sets.{Set, no_tokens, marked, names, numbers, strings, all_tokens, union, only_if, has, disjoint, disjoint-has, has-union, or_left, or_right, is_mark-has, is_name-has, is_number-has, is_string-has}
-use Rattle.gql_doc.proofs.Predictive.{Begun, Predictive, returns-predictive, token-predictive, bind-predictive, bind_apart-predictive, pick-predictive, pick_first-predictive, other-predictive, shut-predictive, many-predictive, some-predictive, forbid-predictive}
+use Rattle.gql_doc.proofs.Predictive.{Begun, Predictive, returns-predictive, token-predictive, bind-predictive, bind_apart-predictive, pick-predictive, pick_first-predictive, other-predictive, shut-predictive, many-predictive, some-predictive, forbid-predictive, many_ends, false_true, pick_yes, pick_no, same_rest}
 use Rattle.gql_model.specs.declared.syntax.Literal.{Literal}
 use Rattle.gql_model.specs.declared.syntax.Literal.TheVariants as literal
 use Rattle.gql_model.specs.declared.syntax.Argument.{Argument, roll-Argument}
@@ -734,3 +735,24 @@ unfolding reading.document
 document-predictive n k =
     bind_apart-predictive (some-predictive reading.is_any all_tokens (λ t h. refl) (λ t h. refl) refl (definition-predictive n k)) (λ all. returns-predictive (record { definitions = all }))
     (λ t h. let no = disjoint-has no_tokens no_tokens t refl h in absurd cc)
+
+nothing_next : (tokens : List Lexeme) → next_is reading.is_any tokens ≡ false → tokens ≡ []
+nothing_next [] h = refl
+nothing_next (t ∷ tokens) h = absurd cc
+
+some_whole : (n : ℕ) (tokens rest : List Lexeme) (all : List Definition) (b : Bool) → next_is reading.is_any tokens ≡ b → reading.some reading.is_any (reading.any_definition n) tokens ≡ Ok (all, rest) → rest ≡ []
+some_whole n tokens rest all true e h =
+    let one = definition-predictive n n in
+    nothing_next rest (many_ends (grammar.any_definition (suc n)) (reading.any_definition n) reading.is_any n one.found one.stopped (λ a x. false_true (one.solid a x)) one.begun one.local (length tokens) tokens rest all (omega arith)
+      (sym (pick_yes reading.is_any (reading.many reading.is_any (reading.any_definition n)) (λ ts. Err (stop.Unexpected, ts)) tokens e) ∙ h))
+some_whole n tokens rest all false e h = let no = sym (pick_no reading.is_any (reading.many reading.is_any (reading.any_definition n)) (λ ts. Err (stop.Unexpected, ts)) tokens e) ∙ h in absurd cc
+
+document_by : (n : ℕ) (tokens rest : List Lexeme) (it : Document) (x : reading.Reading (List Definition)) → reading.some reading.is_any (reading.any_definition n) tokens ≡ x
+    → reading.behind x (λ all. gives (record { definitions = all })) ≡ Ok (it, rest) → rest ≡ []
+document_by n tokens rest it (Ok x) e h = sym (same_rest h) ∙ some_whole n tokens x.1 x.0 (next_is reading.is_any tokens) refl e
+document_by n tokens rest it (Err y) e h = absurd cc
+
+-- a document that is read leaves nothing
+pub document_whole : (n : ℕ) (tokens rest : List Lexeme) (it : Document) → reading.document n tokens ≡ Ok (it, rest) → rest ≡ []
+unfolding reading.document
+document_whole n tokens rest it h = document_by n tokens rest it (reading.some reading.is_any (reading.any_definition n) tokens) refl h

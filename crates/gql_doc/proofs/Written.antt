@@ -12,7 +12,7 @@ use Rattle.gql_lex.specs.Longest.{Each, IsName, IsMinus, IsWhole}
 use Rattle.gql_lex.specs.Tokens.{Lexeme, End, Lexes}
 use Rattle.gql_lex.proofs.Lexing.{IsRight, tokens-right}
 use Rattle.gql_lex.proofs.Texts.{IsInteger, IsPunctuator, IsPlain}
-use Rattle.gql_doc.specs.Marks.{class_of, is_name, is_number, is_string}
+use Rattle.gql_doc.specs.Marks.{is_name, is_name_kind, is_number, is_number_kind, is_string, is_string_kind}
 use Rattle.gql_doc.specs.Quoting.{quoted_text}
 use Rattle.gql_doc.specs.Pieces.{Piece, piece, spaced}
 use Rattle.gql_doc.proofs.Pieces.{IsText, IsWritten}
@@ -20,7 +20,7 @@ use Rattle.gql_doc.proofs.Quoting.{AreAscii, encodes_ascii, scalars_ascii, IsUtf
 
 -- ---- what the lexer gives
 
-by_kind : (kind : TokenKind) (text : List ℕ) → IsPlain kind text → (class_of kind text == 2) ≡ false → IsText kind text
+by_kind : (kind : TokenKind) (text : List ℕ) → IsPlain kind text → is_string_kind kind ≡ false → IsText kind text
 by_kind kind.Name text is other = is
 by_kind kind.Int text is other = is
 by_kind kind.Punctuator text is other = is
@@ -40,34 +40,26 @@ tokens-written text tokens end lexes = each tokens (tokens-right [] text tokens 
 
 -- ---- what the grammar takes
 
-is_class : (kind : TokenKind) (text : List ℕ) (n : ℕ) → (class_of kind text == n) ≡ true → class_of kind text ≡ n
-is_class kind text n is = eqb-true (class_of kind text) n is
-
--- no punctuator begins with a byte this small
-begins_high : (text : List ℕ) → IsPunctuator text → 3 < class_of kind.Punctuator text
-begins_high text (inl is) = subst (λ xs. 3 < class_of kind.Punctuator xs) (sym is.2) (let mark = is.1 in grind (arith, nat_tests))
-begins_high text (inr is) = subst (λ xs. 3 < class_of kind.Punctuator xs) (sym is) (lit< tt)
-
-name_by : (kind : TokenKind) (text : List ℕ) → IsPlain kind text → class_of kind text ≡ 0 → IsName text
+name_by : (kind : TokenKind) (text : List ℕ) → IsPlain kind text → is_name_kind kind ≡ true → IsName text
 name_by kind.Name text is class = is
 name_by kind.Int text is class = absurd (cc)
-name_by kind.Punctuator text is class = absurd (let high = begins_high text is in omega arith)
+name_by kind.Punctuator text is class = absurd (cc)
 name_by kind.Quoted text is class = absurd (cc)
 name_by kind.Block text is class = absurd (cc)
 
-number_by : (kind : TokenKind) (text : List ℕ) → IsPlain kind text → class_of kind text ≡ 1 → IsInteger text
+number_by : (kind : TokenKind) (text : List ℕ) → IsPlain kind text → is_number_kind kind ≡ true → IsInteger text
 number_by kind.Name text is class = absurd (cc)
 number_by kind.Int text is class = is
-number_by kind.Punctuator text is class = absurd (let high = begins_high text is in omega arith)
+number_by kind.Punctuator text is class = absurd (cc)
 number_by kind.Quoted text is class = absurd (cc)
 number_by kind.Block text is class = absurd (cc)
 
 -- a token that the grammar takes for a name is written as one, and likewise a number
 pub name-written : (token : Lexeme) → IsRight token → is_name token ≡ true → IsWritten (record { kind = kind.Name; text = token.text })
-name-written token is taken = name_by token.kind token.text is (is_class token.kind token.text 0 taken)
+name-written token is taken = name_by token.kind token.text is taken
 
 pub number-written : (token : Lexeme) → IsRight token → is_number token ≡ true → IsWritten (record { kind = kind.Int; text = token.text })
-number-written token is taken = number_by token.kind token.text is (is_class token.kind token.text 1 taken)
+number-written token is taken = number_by token.kind token.text is taken
 
 -- the value of a string is written as a string
 pub string-written : (value : List ℕ) → IsUtf8 value → IsWritten (record { kind = kind.Quoted; text = quoted_text value })

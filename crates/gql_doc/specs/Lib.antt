@@ -9,3 +9,4 @@ pub mod Answer
 pub mod Reading
 pub mod Left
 pub mod TextEnds
+pub mod Outcomes

@@ -8,7 +8,7 @@ use crate::marks::{
     is_fragment, is_fragment_name, is_mark, is_name, is_number, is_on, is_operation_type, is_string,
 };
 use gql_lex::Token;
-use gql_tree::{NoMemory, Text};
+use gql_tree::{NoMemory, Spot, Text};
 use std::alloc::Global;
 
 /// Why the parser stops, at the token where it stands.
@@ -45,6 +45,7 @@ pub(crate) struct Parser<'a> {
 
 impl<'a> Parser<'a> {
     ghost use Rattle.gql_doc.specs.Left.{left, behind_first};
+    ghost use Rattle.gql_doc.specs.Outcomes.{next_spot};
     ghost use Rattle.gql_doc.specs.Reading.{Gives, next_is, take};
     ghost use Rattle.gql_doc.specs.declared.parser.Stop.TheVariants as stop;
 
@@ -63,6 +64,16 @@ impl<'a> Parser<'a> {
         ensures { result ≡ length (left self.now) }
     {
         self.tokens.len() - self.at
+    }
+
+    /// Where the next token begins.
+    pub(crate) fn next_spot(&self) -> Option<Spot>
+        ensures { result ≡ next_spot (left self.now) }
+    {
+        match self.tokens.get(self.at) {
+            Some(token) => Some(token.spot),
+            None => None,
+        }
     }
 
     /// Whether the next token is the punctuator that begins with this byte.

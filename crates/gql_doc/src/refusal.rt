@@ -18,3 +18,14 @@ pub enum ParseRefusal {
     /// There was no memory for the document.
     NoMemory,
 }
+
+impl From<NoMemory> for ParseRefusal {
+    ghost use Rattle.std.specs.Prelude.{◌≡◌};
+    ghost use Rattle.gql_doc.specs.declared.refusal.ParseRefusal.TheVariants as refusal;
+
+    ghost from_gives = { λ _ why. why ≡ refusal.NoMemory };
+
+    fn from(_error: NoMemory) -> ParseRefusal {
+        ParseRefusal::NoMemory
+    }
+}

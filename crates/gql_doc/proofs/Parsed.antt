@@ -1,0 +1,177 @@
+-- From what the parser reads to what a text is.
+use Rattle.std.proofs.Common.{◌≡◌, ◌⊎◌, inl, inr, ℕ, zero, suc, ◌<◌, ◌≤◌, Bool, true, false, List, [], ◌∷◌, ◌++◌, map, length, Option, Some, None, IsSome, Result, Ok, Err, refl, sym, ap, subst, ◌∙◌, append_assoc}
+use Rattle.std.specs.Option.{option_and_then}
+use Rattle.std.proofs.lemmas.List.{append-nil}
+use Rattle.gql_lex.specs.Tokens.{Lexeme, lexeme, Lexes, End, Whole, Refused}
+use Rattle.gql_lex.specs.Places.{spot_at}
+use Rattle.gql_lex.specs.declared.token.LexRefusal.{LexRefusal}
+use Rattle.gql_lex.proofs.Determined.{Lexes-determined}
+use Rattle.gql_doc.specs.Grammar.{IsDocument, document}
+use Rattle.gql_doc.specs.Marks.{is_opening}
+use Rattle.gql_doc.specs.Nesting.{room_behind, room_after, taken, IsWithin, limit}
+use Rattle.gql_doc.specs.Answer.{Begins, IsFine, Comes, IsUnexpected, IsCutShort, IsTooDeep, Is, Answers}
+use Rattle.gql_doc.specs.Reading.{Reading, next_is}
+use Rattle.gql_doc.specs.Reading as reading
+use Rattle.gql_doc.specs.TextEnds.{end_of, IsPlaced}
+use Rattle.gql_doc.specs.Outcomes.{outcome, found, next_spot, refusal_of}
+use Rattle.gql_doc.specs.declared.parser.Stop.{Stop}
+use Rattle.gql_doc.specs.declared.parser.Stop.TheVariants as stop
+use Rattle.gql_lex.specs.declared.token.Token.{Token}
+use Rattle.gql_doc.specs.declared.refusal.ParseRefusal.{ParseRefusal}
+use Rattle.gql_doc.specs.declared.refusal.ParseRefusal.TheVariants as refusal
+use Rattle.gql_doc.specs.declared.tokens.TextEnd.{TextEnd}
+use Rattle.gql_doc.specs.declared.tokens.TextEnd.TheVariants as end
+use Rattle.gql_doc.proofs.Sets.{union, marked, names, all_tokens}
+use Rattle.gql_doc.proofs.Predictive.{Begun, Found, Stopped, Cause, Deep, IsDeep, Reads, Predictive, room_both, same_why}
+use Rattle.gql_doc.proofs.Productions.{document-predictive, document_whole}
+use Rattle.gql_model.specs.declared.syntax.Document.{Document}
+
+abbrev reads_document : List Lexeme → Reading Document
+reads_document tokens = reading.document limit tokens
+
+parses : (depth : ℕ) → Predictive limit limit (document (suc limit)) (document depth) (reading.document limit) (union (marked 123) names) all_tokens false
+parses depth = document-predictive limit depth
+
+begins_of : (tokens : List Lexeme) → Begun (document (suc limit)) tokens → Begins tokens
+begins_of tokens b = (b.more, b.value, (suc limit, b.is))
+
+within_some : (tokens : List Lexeme) (left : ℕ) → room_after limit tokens ≡ Some left → IsWithin tokens
+within_some tokens left e = rw e refl
+
+-- ---- a document
+
+is_of : (tokens rest : List Lexeme) (it : Document) → reads_document tokens ≡ Ok (it, rest) → IsDocument tokens it × IsWithin tokens
+is_of tokens rest it h =
+    let f = (parses 0).found tokens rest it h in
+    let whole : tokens ≡ f.used = f.whole ∙ ap (λ r. f.used ++ r) (document_whole limit tokens rest it h) ∙ append-nil f.used in
+    ((suc limit, subst (λ t. document (suc limit) t it) (sym whole) f.is), within_some tokens limit (ap (room_after limit) whole ∙ f.room))
+
+fine_of : (tokens : List Lexeme) (it : Document) → IsDocument tokens it × IsWithin tokens → IsFine tokens
+fine_of tokens it is = record { begins = ([], it, (is.0.0, subst (λ t. document is.0.0 t it) (sym (append-nil tokens)) is.0.1)); within = is.1 }
+
+shut_room : (done more : List Lexeme) (token : Lexeme) → room_after limit done ≡ Some 0 → is_opening token ≡ true → room_after limit (done ++ token ∷ more) ≡ None
+shut_room done more token room opens =
+    let one : room_behind 0 token ≡ None = rw opens refl in
+    room_both limit 0 done (token ∷ more) None room (ap (option_and_then (λ left. room_after left more)) one)
+
+-- nothing that is within is opened too deep
+not_deep : (tokens : List Lexeme) → IsWithin tokens → IsDeep (reads_document (tokens ++ [])) → ⊥
+not_deep tokens within deep =
+    let s = (parses 0).stopped (tokens ++ []) deep.rest stop.TooDeep deep.is in
+    let d = s.cause.1 in
+    let whole : tokens ≡ s.done ++ d.next ∷ d.more = sym (append-nil tokens) ∙ s.whole ∙ ap (λ r. s.done ++ r) d.is in
+    let none : room_after limit tokens ≡ None = ap (room_after limit) whole ∙ shut_room s.done d.more d.next s.cause.0 d.opens in
+    absurd (within_none tokens none within)
+  where
+    within_none : (tokens : List Lexeme) → room_after limit tokens ≡ None → IsWithin tokens → ⊥
+    within_none tokens e h = let no = subst IsSome e h in absurd cc
+
+-- a document that is within is read
+is_read : (tokens : List Lexeme) (it : Document) → IsDocument tokens it → IsWithin tokens → reads_document tokens ≡ Ok (it, [])
+is_read tokens it is within = ap (reading.document limit) (sym (append-nil tokens)) ∙ by ((parses is.0).reads tokens [] it is.1 refl)
+  where
+    by : Reads (reads_document (tokens ++ [])) it [] → reads_document (tokens ++ []) ≡ Ok (it, [])
+    by (inl h) = h
+    by (inr deep) = absurd (not_deep tokens within deep)
+
+-- ---- what is in the way
+
+fine_at : (tokens rest : List Lexeme) → (s : Stopped limit (document (suc limit)) tokens stop.Unexpected rest) → IsFine s.done
+fine_at tokens rest s = record { begins = begins_of s.done s.begun; within = within_some s.done s.cause.0 s.cause.1 }
+
+-- no document goes on with the token
+no_more : (done more : List Lexeme) (token : Lexeme) → reads_document (done ++ token ∷ more) ≡ Err (stop.Unexpected, token ∷ more) → Begins (done ++ token ∷ []) → ⊥
+no_more done more token h (others, it, (depth, is)) =
+    let whole : ((done ++ token ∷ []) ++ others) ++ [] ≡ done ++ token ∷ others = append-nil ((done ++ token ∷ []) ++ others) ∙ append_assoc done (token ∷ []) others in
+    let stops : reads_document (((done ++ token ∷ []) ++ others) ++ []) ≡ Err (stop.Unexpected, token ∷ others) = ap (reading.document limit) whole ∙ (parses 0).local.err done [] (token ∷ more) (token ∷ others) stop.Unexpected refl h in
+    refuses (((done ++ token ∷ []) ++ others) ++ []) (token ∷ others) [] it stops ((parses depth).reads ((done ++ token ∷ []) ++ others) [] it is refl)
+  where
+    refuses : (tokens rest left : List Lexeme) (it : Document) → reads_document tokens ≡ Err (stop.Unexpected, rest) → Reads (reads_document tokens) it left → ⊥
+    refuses tokens rest left it h (inl e) = let no = sym h ∙ e in absurd cc
+    refuses tokens rest left it h (inr deep) = let no = same_why (sym h ∙ deep.is) in absurd cc
+
+-- no document ends here
+no_document : (tokens : List Lexeme) → reads_document tokens ≡ Err (stop.Unexpected, []) → (it : Document) → IsDocument tokens it → ⊥
+no_document tokens h it is = by ((parses is.0).reads tokens [] it is.1 refl)
+  where
+    by : Reads (reads_document (tokens ++ [])) it [] → ⊥
+    by (inl e) = let no = sym h ∙ ap (reading.document limit) (sym (append-nil tokens)) ∙ e in absurd cc
+    by (inr deep) = let no = same_why (sym h ∙ ap (reading.document limit) (sym (append-nil tokens)) ∙ deep.is) in absurd cc
+
+-- ---- the answer
+
+answer_found : (text : List ℕ) (tokens : List Lexeme) (text_end : TextEnd) (it : Document) → Lexes [] text tokens (end_of text_end) → IsDocument tokens it × IsWithin tokens → Answers text (found it text_end)
+answer_found text tokens (end.Whole spot) it lexes is = record { tokens = tokens; all = lexes; document = is.0; within = is.1 }
+answer_found text tokens (end.Refused fault) it lexes is = (tokens, lexes, fine_of tokens it is)
+
+-- the next token is in the way
+comes_of : (text : List ℕ) (tokens done more : List Lexeme) (token : Lexeme) (text_end : TextEnd) → Lexes [] text tokens (end_of text_end) → tokens ≡ done ++ token ∷ more → IsFine done → Comes text done token
+comes_of text tokens done more token text_end lexes whole fine = record { more = more; end = end_of text_end; tokens = subst (λ t. Lexes [] text t (end_of text_end)) whole lexes; fine = fine }
+
+unexpected_token : (text : List ℕ) (tokens more : List Lexeme) (token : Lexeme) (text_end : TextEnd) → Lexes [] text tokens (end_of text_end) → reads_document tokens ≡ Err (stop.Unexpected, token ∷ more) → IsUnexpected text token.spot
+unexpected_token text tokens more token text_end lexes h =
+    let s = (parses 0).stopped tokens (token ∷ more) stop.Unexpected h in
+    record { done = s.done; next = token; comes = comes_of text tokens s.done more token text_end lexes s.whole (fine_at tokens (token ∷ more) s);
+      no_document = no_more s.done more token (ap (reading.document limit) (sym s.whole) ∙ h); place = refl }
+
+deep_token : (text : List ℕ) (tokens more : List Lexeme) (token : Lexeme) (text_end : TextEnd) → Lexes [] text tokens (end_of text_end) → reads_document tokens ≡ Err (stop.TooDeep, token ∷ more) → IsTooDeep text token.spot
+deep_token text tokens more token text_end lexes h =
+    let s = (parses 0).stopped tokens (token ∷ more) stop.TooDeep h in
+    let d = s.cause.1 in
+    let same : token ≡ d.next = cc d.is in
+    record { done = s.done; next = token; comes = comes_of text tokens s.done more token text_end lexes s.whole (record { begins = begins_of s.done s.begun; within = within_some s.done 0 s.cause.0 });
+      begins = subst (λ t. Begins (s.done ++ t ∷ [])) (sym same) (begins_of (s.done ++ d.next ∷ []) d.begun);
+      beyond = λ within. let no = subst IsSome (shut_room s.done [] token s.cause.0 (ap is_opening same ∙ d.opens)) within in absurd cc; place = refl }
+
+-- the tokens end inside a document
+ended : (text : List ℕ) (tokens : List Lexeme) (text_end : TextEnd) → Lexes [] text tokens (end_of text_end) → IsPlaced text text_end → reads_document tokens ≡ Err (stop.Unexpected, []) → Answers text (outcome (Err (stop.Unexpected, [])) text_end)
+ended text tokens (end.Whole spot) lexes placed h =
+    let s = (parses 0).stopped tokens [] stop.Unexpected h in
+    let whole : tokens ≡ s.done = s.whole ∙ append-nil s.done in
+    inr (record { tokens = tokens; all = lexes; fine = subst IsFine (sym whole) (fine_at tokens [] s); no_document = no_document tokens h; place = placed })
+ended text tokens (end.Refused fault) lexes placed h =
+    let s = (parses 0).stopped tokens [] stop.Unexpected h in
+    let whole : tokens ≡ s.done = s.whole ∙ append-nil s.done in
+    (tokens, lexes, subst IsFine (sym whole) (fine_at tokens [] s))
+
+answer_by : (text : List ℕ) (tokens : List Lexeme) (text_end : TextEnd) (x : Reading Document) → Lexes [] text tokens (end_of text_end) → IsPlaced text text_end → reads_document tokens ≡ x → Answers text (outcome x text_end)
+answer_by text tokens text_end (Ok (it, rest)) lexes placed h = answer_found text tokens text_end it lexes (is_of tokens rest it h)
+answer_by text tokens text_end (Err (stop.Unexpected, [])) lexes placed h = ended text tokens text_end lexes placed h
+answer_by text tokens text_end (Err (stop.Unexpected, token ∷ more)) lexes placed h = inl (unexpected_token text tokens more token text_end lexes h)
+answer_by text tokens text_end (Err (stop.TooDeep, [])) lexes placed h = let s = (parses 0).stopped tokens [] stop.TooDeep h in let no = s.cause.1.is in absurd cc
+answer_by text tokens text_end (Err (stop.TooDeep, token ∷ more)) lexes placed h = deep_token text tokens more token text_end lexes h
+answer_by text tokens text_end (Err (stop.NoMemory, rest)) lexes placed h = absurd ((parses 0).stopped tokens rest stop.NoMemory h).cause
+
+-- what is made of the tokens of a text is the answer
+pub outcome-answers : (text : List ℕ) (tokens : List Lexeme) (text_end : TextEnd) → Lexes [] text tokens (end_of text_end) → IsPlaced text text_end → Answers text (outcome (reading.document limit tokens) text_end)
+outcome-answers text tokens text_end lexes placed = answer_by text tokens text_end (reading.document limit tokens) lexes placed refl
+
+whole_end : (text_end : TextEnd) (it : Document) → end_of text_end ≡ Whole → found it text_end ≡ Ok it
+whole_end (end.Whole spot) it h = refl
+whole_end (end.Refused fault) it h = absurd cc
+
+-- a text that is a document gives it
+pub outcome-is : (text : List ℕ) (tokens : List Lexeme) (text_end : TextEnd) (it : Document) → Lexes [] text tokens (end_of text_end) → Is text it → outcome (reading.document limit tokens) text_end ≡ Ok it
+outcome-is text tokens text_end it lexes is =
+    let same = Lexes-determined [] text tokens is.tokens (end_of text_end) Whole lexes is.all in
+    ap (λ x. outcome x text_end) (is_read tokens it (subst (λ t. IsDocument t it) (sym same.0) is.document) (subst IsWithin (sym same.0) is.within)) ∙ whole_end text_end it same.1
+
+-- as `parse` has them
+pub Answers-either : (text : List ℕ) (items : List Token) (text_end : TextEnd) (slice : List Token) (result : Result Document ParseRefusal) → Lexes [] text (map lexeme items) (end_of text_end) → IsPlaced text text_end → slice ≡ items
+    → (result ≡ outcome (reading.document limit (map lexeme slice)) text_end) ⊎ (result ≡ Err refusal.NoMemory) → Answers text result
+Answers-either text items text_end slice result lexes placed same (inl e) =
+    subst (Answers text) (sym (e ∙ ap (λ ts. outcome (reading.document limit (map lexeme ts)) text_end) same)) (outcome-answers text (map lexeme items) text_end lexes placed)
+Answers-either text items text_end slice result lexes placed same (inr e) = subst (Answers text) (sym e) tt
+
+pub is-either : (text : List ℕ) (items : List Token) (text_end : TextEnd) (slice : List Token) (result : Result Document ParseRefusal) (it : Document) → Lexes [] text (map lexeme items) (end_of text_end) → slice ≡ items
+    → (result ≡ outcome (reading.document limit (map lexeme slice)) text_end) ⊎ (result ≡ Err refusal.NoMemory) → Is text it → (result ≡ Ok it) ⊎ (result ≡ Err refusal.NoMemory)
+is-either text items text_end slice result it lexes same (inl e) is =
+    inl (e ∙ ap (λ ts. outcome (reading.document limit (map lexeme ts)) text_end) same ∙ outcome-is text (map lexeme items) text_end it lexes is)
+is-either text items text_end slice result it lexes same (inr e) is = inr e
+
+-- what is made of where the parser stopped
+pub Fails-outcome : (why : Stop) (left : List Lexeme) (x : Reading Document) (text_end : TextEnd) (told : ParseRefusal) → reading.Fails why left x → told ≡ refusal_of why (next_spot left) text_end
+    → (let r : Result Document ParseRefusal = Err told in (r ≡ outcome x text_end) ⊎ (r ≡ Err refusal.NoMemory))
+Fails-outcome stop.NoMemory left x text_end told fails is = inr (ap Err is)
+Fails-outcome stop.Unexpected left x text_end told fails is = inl (ap Err is ∙ sym (ap (λ y. outcome y text_end) fails))
+Fails-outcome stop.TooDeep left x text_end told fails is = inl (ap Err is ∙ sym (ap (λ y. outcome y text_end) fails))

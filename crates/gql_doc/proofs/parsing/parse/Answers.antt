@@ -1,0 +1,14 @@
+use Rattle.std.proofs.Common.{◌≡◌, ◌⊎◌, inl, inr, map, Ok, Err, subst, sym, ap, ◌∙◌, arith}
+use Rattle.gql_lex.specs.Tokens.{lexeme}
+use Rattle.gql_doc.specs.Answer.{Answers}
+use Rattle.gql_doc.specs.Nesting.{limit}
+use Rattle.gql_doc.specs.Outcomes.{outcome}
+use Rattle.gql_doc.specs.Reading.{document}
+use Rattle.gql_doc.proofs.Parsed.{outcome-answers, outcome-is, Answers-either, is-either}
+use Rattle.gql_doc.proofs.parsing.parse.Goals as goal
+
+pub returns-clause-answer : goal.returns-clause-answer
+returns-clause-answer c = Answers-either c.args.text.now c.in_ok-tokens.tokens.items c.in_ok-tokens.tokens.end c.as_slice.result.now c.read.result c.in_ok-tokens.ensures.lexed c.in_ok-tokens.ensures.placed c.as_slice.ensures c.read.ensures
+
+pub returns-clause-found : goal.returns-clause-found
+returns-clause-found c = λ it le is. is-either c.args.text.now c.in_ok-tokens.tokens.items c.in_ok-tokens.tokens.end c.as_slice.result.now c.read.result it c.in_ok-tokens.ensures.lexed c.as_slice.ensures c.read.ensures is
