@@ -4,4 +4,5 @@ pub mod Found
 pub mod Longest
 pub mod Places
 pub mod Runs
+pub mod TokenPlaces
 pub mod Written
