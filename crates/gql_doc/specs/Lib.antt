@@ -1,4 +1,6 @@
 pub mod StringValue
+pub mod Quoting
+pub mod Pieces
 pub mod Phrase
 pub mod Marks
 pub mod Grammar

@@ -1,8 +1,14 @@
 pub mod Answers
+pub mod Contents
 pub mod Determined
 pub mod Found
+pub mod Fronts
+pub mod Lexing
 pub mod Longest
 pub mod Places
 pub mod Runs
+pub mod Steps
+pub mod Texts
 pub mod TokenPlaces
+pub mod Tokens
 pub mod Written

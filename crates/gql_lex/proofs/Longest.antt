@@ -11,7 +11,7 @@ use Rattle.gql_lex.specs.Numbers.{digits, minus_len, whole_len, fraction_len, si
 use Rattle.gql_lex.specs.Longest.{Each, IsName, AreDigits, IsMinus, IsWhole, IsFraction, IsPower, IsExponent, IsNumber, NoneIsLonger}
 
 -- what passes is counted, and then what passes behind it
-prefix_len-Each : (test : ℕ → Bool) (xs rest : List ℕ) → Each test xs → prefix_len test (xs ++ rest) ≡ length xs + prefix_len test rest
+pub prefix_len-Each : (test : ℕ → Bool) (xs rest : List ℕ) → Each test xs → prefix_len test (xs ++ rest) ≡ length xs + prefix_len test rest
 prefix_len-Each test [] rest each = sym (zero-add _)
 prefix_len-Each test (x ∷ xs) rest each =
     ap (λ b. cond b (1 + prefix_len test (xs ++ rest)) 0) each.0
@@ -65,12 +65,12 @@ Each_first [] is = absurd is
 Each_first (x ∷ xs) is = (is, omega arith)
 
 -- -?
-minus_len-is : (minus : List ℕ) (byte : ℕ) (xs : List ℕ) → IsMinus minus → byte ≢ 45 → minus_len (minus ++ (byte ∷ xs)) ≡ length minus
+pub minus_len-is : (minus : List ℕ) (byte : ℕ) (xs : List ℕ) → IsMinus minus → byte ≢ 45 → minus_len (minus ++ (byte ∷ xs)) ≡ length minus
 minus_len-is [] byte xs is ne = ap (λ b. if b then 1 else 0) (begins_not byte 45 xs ne)
 minus_len-is (m ∷ more) byte xs is ne = ap (λ b. if b then 1 else 0) (begins m 45 (more ++ (byte ∷ xs)) is.0) ∙ ap (λ k. suc (length k)) (sym is.1)
 
 -- 0|[1-9][0-9]*, and digits that follow it
-whole_len-is : (byte : ℕ) (more xs : List ℕ) → IsWhole (byte ∷ more) → (k : ℕ) × (whole_len (byte ∷ (more ++ xs)) ≡ suc (length more) + k) × (digits xs ≡ 0 → k ≡ 0)
+pub whole_len-is : (byte : ℕ) (more xs : List ℕ) → IsWhole (byte ∷ more) → (k : ℕ) × (whole_len (byte ∷ (more ++ xs)) ≡ suc (length more) + k) × (digits xs ≡ 0 → k ≡ 0)
 whole_len-is byte more xs (inl is) = (0, ap (λ b. if b then 1 else digits (byte ∷ (more ++ xs))) (begins byte 48 (more ++ xs) is.0) ∙ ap (λ l. suc (length l) + 0) (sym is.1), λ h. refl)
 whole_len-is byte more xs (inr is) = (digits xs, ap (λ b. if b then 1 else digits (byte ∷ (more ++ xs))) (begins_not byte 48 (more ++ xs) is.0) ∙ digits_all (byte ∷ more) xs is.1, λ h. h)
 
@@ -183,7 +183,7 @@ tail_least (byte ∷ more) exponent rest k is_fraction is_exponent none =
     let least = fraction_exponent byte more exponent rest is_fraction is_exponent in
     subst (λ n. suc (length more) + length exponent ≤ n + behind_whole (drop n (byte ∷ (more ++ (exponent ++ rest))))) (sym zero_is) (omega (arith, least))
 
-integer_by : (text : List ℕ) (m w : ℕ) → minus_len text ≡ m → whole_len (drop m text) ≡ w → 0 < w → integer_len text ≡ m + w
+pub integer_by : (text : List ℕ) (m w : ℕ) → minus_len text ≡ m → whole_len (drop m text) ≡ w → 0 < w → integer_len text ≡ m + w
 integer_by text m w minus_is whole_is some =
     ap (λ k. if whole_len (drop k text) == 0 then 0 else k + whole_len (drop k text)) minus_is
     ∙ ap (λ k. if k == 0 then 0 else m + k) whole_is
@@ -196,7 +196,7 @@ number_by text i is =
     ∙ ap (λ xs. i + fraction_len (drop i text) + exponent_len xs) (sym (drop-drop (fraction_len (drop i text)) i text))
     ∙ add_assoc i (fraction_len (drop i text)) (exponent_len (drop (fraction_len (drop i text)) (drop i text)))
 
-whole_not_minus : (byte : ℕ) (more : List ℕ) → IsWhole (byte ∷ more) → byte ≢ 45
+pub whole_not_minus : (byte : ℕ) (more : List ℕ) → IsWhole (byte ∷ more) → byte ≢ 45
 whole_not_minus byte more (inl is) e = (let p = is.0 in omega (arith, p, e))
 whole_not_minus byte more (inr is) e = digit_not byte 45 is.1.0 (lit< tt) e
 

@@ -36,7 +36,7 @@ minus_by : (byte : ℕ) (xs : List ℕ) (b : Bool) → starts_with nat_eq (byte 
 minus_by byte xs true is = (begins_is byte 45 xs is, refl)
 minus_by byte xs false is = tt
 
-minus-is : (text : List ℕ) → IsMinus (take (minus_len text) text)
+pub minus-is : (text : List ℕ) → IsMinus (take (minus_len text) text)
 minus-is [] = tt
 minus-is (byte ∷ xs) = minus_by byte xs (starts_with nat_eq (byte ∷ xs) (45 ∷ [])) refl
 
@@ -49,7 +49,7 @@ whole_by : (byte : ℕ) (xs : List ℕ) (b : Bool) → starts_with nat_eq (byte 
 whole_by byte xs true is some = inl (begins_is byte 48 xs is, refl)
 whole_by byte xs false is some = whole_digits byte xs (digits (byte ∷ xs)) (begins_else byte 48 xs is) some (Each-prefix_len is_ascii_digit (byte ∷ xs))
 
-whole-is : (text : List ℕ) → 0 < whole_len text → IsWhole (take (whole_len text) text)
+pub whole-is : (text : List ℕ) → 0 < whole_len text → IsWhole (take (whole_len text) text)
 whole-is [] some = absurd (omega arith)
 whole-is (byte ∷ xs) some = whole_by byte xs (starts_with nat_eq (byte ∷ xs) (48 ∷ [])) refl some
 
@@ -127,7 +127,7 @@ exponent-is [] = tt
 exponent-is (byte ∷ xs) = exponent_by byte xs ((byte == 69 || byte == 101) && nat_lt 0 (power_len xs)) refl
 
 -- the integer is the minus and the whole part
-integer_parts : (text : List ℕ) → 0 < integer_len text → (0 < whole_len (drop (minus_len text) text)) × (integer_len text ≡ minus_len text + whole_len (drop (minus_len text) text))
+pub integer_parts : (text : List ℕ) → 0 < integer_len text → (0 < whole_len (drop (minus_len text) text)) × (integer_len text ≡ minus_len text + whole_len (drop (minus_len text) text))
 integer_parts text some = by (whole_len (drop (minus_len text) text)) (whole_len (drop (minus_len text) text) == 0) refl some
   where
     by : (w : ℕ) (b : Bool) → w == 0 ≡ b → 0 < (if b then 0 else minus_len text + w) → (0 < w) × ((if b then 0 else minus_len text + w) ≡ minus_len text + w)

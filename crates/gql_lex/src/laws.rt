@@ -18,6 +18,11 @@ pub fn tokens_stand_in_their_text()
     ensures { (text : List ℕ) → (tokens : List Lexeme) → (end : End) → Lexes [] text tokens end → AllByRecursion (λ token. IsPlaceIn text token.spot) tokens }
 {}
 
+/// Every text has tokens, and an end to them.
+pub fn every_text_has_tokens()
+    ensures { (text : List ℕ) → (tokens : List Lexeme) × (end : End) × Lexes [] text tokens end }
+{}
+
 /// The name that is counted at the front of a text is a name, and none there is longer. So is the
 /// number that is counted, and where none is counted there is none.
 pub fn the_longest_are_counted()

@@ -1,0 +1,94 @@
+-- What the lexer gives is written, and what is written is UTF-8.
+use Rattle.std.proofs.Common.{◌≡◌, ℕ, ◌<◌, ◌==◌, Bool, true, false, inl, inr, List, [], ◌∷◌, flat_map, IsUtf8, sym, subst, lit<, arith}
+use Rattle.std.specs.List.{AllByRecursion}
+use Rattle.std.specs.Char.{is_ascii_digit}
+use Rattle.std.proofs.lemmas.Bool.Decides.{nat_tests}
+use Rattle.std.proofs.lemmas.Str.{IsUtf8-append, IsUtf8-nil}
+use Rattle.gql_lex.specs.declared.token.TokenKind.{TokenKind}
+use Rattle.gql_lex.specs.declared.token.TokenKind.TheVariants as kind
+use Rattle.gql_lex.specs.Classes.{begins_name, continues_name, is_mark}
+use Rattle.gql_lex.specs.Longest.{Each, IsName, IsMinus, IsWhole}
+use Rattle.gql_lex.specs.Tokens.{Lexeme, End, Lexes}
+use Rattle.gql_lex.proofs.Lexing.{IsRight, tokens-right}
+use Rattle.gql_lex.proofs.Texts.{IsPunctuator, IsPlain}
+use Rattle.gql_doc.specs.Marks.{class_of, is_string}
+use Rattle.gql_doc.specs.Pieces.{Piece, piece, spaced}
+use Rattle.gql_doc.proofs.Pieces.{IsText, IsWritten}
+use Rattle.gql_doc.proofs.Quoting.{AreAscii, encodes_ascii, scalars_ascii, IsUtf8-quoted_text}
+
+-- ---- what the lexer gives
+
+by_kind : (kind : TokenKind) (text : List ℕ) → IsPlain kind text → (class_of kind text == 2) ≡ false → IsText kind text
+by_kind kind.Name text is other = is
+by_kind kind.Int text is other = is
+by_kind kind.Punctuator text is other = is
+by_kind kind.Quoted text is other = absurd (cc)
+by_kind kind.Block text is other = absurd (cc)
+
+-- a token that is no string is written as it stands
+pub token-written : (token : Lexeme) → IsRight token → is_string token ≡ false → IsWritten (piece token)
+token-written token is other = by_kind token.kind token.text is other
+
+pub tokens-written : (text : List ℕ) (tokens : List Lexeme) (end : End) → Lexes [] text tokens end → AllByRecursion (λ (token : Lexeme). is_string token ≡ false → IsWritten (piece token)) tokens
+tokens-written text tokens end lexes = each tokens (tokens-right [] text tokens end lexes)
+  where
+    each : (tokens : List Lexeme) → AllByRecursion IsRight tokens → AllByRecursion (λ (token : Lexeme). is_string token ≡ false → IsWritten (piece token)) tokens
+    each [] are = tt
+    each (token ∷ tokens) are = (token-written token are.0, each tokens are.1)
+
+-- ---- what is written
+
+ascii_utf8 : (xs : List ℕ) → AreAscii xs → IsUtf8 xs
+ascii_utf8 xs h = (xs, (scalars_ascii xs h, encodes_ascii xs h))
+
+each_small : (test : ℕ → Bool) → ((b : ℕ) → test b ≡ true → b < 128) → (xs : List ℕ) → Each test xs → AreAscii xs
+each_small test small [] h = tt
+each_small test small (x ∷ xs) h = (small x h.0, each_small test small xs h.1)
+
+first_small : (byte : ℕ) → begins_name byte ≡ true → byte < 128
+first_small byte h = grind (arith, nat_tests)
+
+later_small : (byte : ℕ) → continues_name byte ≡ true → byte < 128
+later_small byte h = grind (arith, nat_tests)
+
+digit_small : (byte : ℕ) → is_ascii_digit byte ≡ true → byte < 128
+digit_small byte h = grind (arith, nat_tests)
+
+mark_small : (byte : ℕ) → is_mark byte ≡ true → byte < 128
+mark_small byte h = grind (arith, nat_tests)
+
+name_ascii : (text : List ℕ) → IsName text → AreAscii text
+name_ascii [] is = absurd is
+name_ascii (byte ∷ more) is = (first_small byte is.0, each_small continues_name later_small more is.1)
+
+minus_ascii : (minus : List ℕ) → IsMinus minus → AreAscii minus
+minus_ascii [] is = tt
+minus_ascii (byte ∷ more) is = subst AreAscii (sym (λ i. is.0 i ∷ is.1 i)) (lit< tt, tt)
+
+whole_ascii : (whole : List ℕ) → IsWhole whole → AreAscii whole
+whole_ascii [] is = absurd is
+whole_ascii (byte ∷ more) (inl is) = subst AreAscii (sym (λ i. is.0 i ∷ is.1 i)) (lit< tt, tt)
+whole_ascii (byte ∷ more) (inr is) = each_small is_ascii_digit digit_small (byte ∷ more) is.1
+
+punctuator_ascii : (text : List ℕ) → IsPunctuator text → AreAscii text
+punctuator_ascii text (inl is) = subst AreAscii (sym is.2) (mark_small is.0 is.1, tt)
+punctuator_ascii text (inr is) = subst AreAscii (sym is) (lit< tt, (lit< tt, (lit< tt, tt)))
+
+text_utf8 : (kind : TokenKind) (text : List ℕ) → IsText kind text → IsUtf8 text
+text_utf8 kind.Name text is = ascii_utf8 text (name_ascii text is)
+text_utf8 kind.Int text is = subst IsUtf8 (sym is.parts) (IsUtf8-append is.minus is.whole (ascii_utf8 is.minus (minus_ascii is.minus is.is_minus)) (ascii_utf8 is.whole (whole_ascii is.whole is.is_whole)))
+text_utf8 kind.Punctuator text is = ascii_utf8 text (punctuator_ascii text is)
+text_utf8 kind.Quoted text is = subst IsUtf8 (sym is.is) (IsUtf8-quoted_text is.value is.is_utf8)
+text_utf8 kind.Block text is = absurd is
+
+behind_utf8 : (others : List Piece) → AllByRecursion IsWritten others → IsUtf8 (flat_map (λ it. 32 ∷ it.text) others)
+behind_utf8 [] are = IsUtf8-nil
+behind_utf8 (next ∷ others) are =
+    IsUtf8-append (32 ∷ next.text) (flat_map (λ it. 32 ∷ it.text) others)
+    (IsUtf8-append (32 ∷ []) next.text (ascii_utf8 (32 ∷ []) (lit< tt, tt)) (text_utf8 next.kind next.text are.0))
+    (behind_utf8 others are.1)
+
+-- written pieces with a space between two are a text
+pub IsUtf8-spaced : (pieces : List Piece) → AllByRecursion IsWritten pieces → IsUtf8 (spaced pieces)
+IsUtf8-spaced [] are = IsUtf8-nil
+IsUtf8-spaced (first ∷ others) are = IsUtf8-append first.text (flat_map (λ it. 32 ∷ it.text) others) (text_utf8 first.kind first.text are.0) (behind_utf8 others are.1)

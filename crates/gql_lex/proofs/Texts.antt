@@ -1,0 +1,26 @@
+-- The texts of each kind of token.
+use Rattle.std.proofs.Common.{◌≡◌, ℕ, ◌⊎◌, true, List, [], ◌∷◌, ◌++◌}
+use Rattle.gql_lex.specs.Classes.{is_mark}
+use Rattle.gql_lex.specs.Longest.{IsName, IsMinus, IsWhole}
+use Rattle.gql_lex.specs.declared.token.TokenKind.{TokenKind}
+use Rattle.gql_lex.specs.declared.token.TokenKind.TheVariants as kind
+
+-- -?(0|[1-9][0-9]*)
+pub record IsInteger (text : List ℕ) : Type 0 where
+  pub minus : List ℕ
+  pub whole : List ℕ
+  pub parts : text ≡ minus ++ whole
+  pub is_minus : IsMinus minus
+  pub is_whole : IsWhole whole
+
+-- a mark, or `...`
+abbrev pub IsPunctuator : List ℕ → Type 0
+IsPunctuator text = ((byte : ℕ) × (is_mark byte ≡ true) × (text ≡ byte ∷ [])) ⊎ (text ≡ 46 ∷ 46 ∷ 46 ∷ [])
+
+-- the text is right for its kind, where that is not a string
+abbrev pub IsPlain : TokenKind → List ℕ → Type 0
+IsPlain kind.Name text = IsName text
+IsPlain kind.Int text = IsInteger text
+IsPlain kind.Punctuator text = IsPunctuator text
+IsPlain kind.Quoted text = Unit {0}
+IsPlain kind.Block text = Unit {0}
