@@ -9,5 +9,6 @@ pub mod Places
 pub mod Runs
 pub mod Steps
 pub mod Texts
+pub mod TokenPlaces
 pub mod Tokens
 pub mod Written

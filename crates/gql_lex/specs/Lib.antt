@@ -7,3 +7,4 @@ pub mod Strings
 pub mod Found
 pub mod Front
 pub mod Tokens
+pub mod TokenPlaces

@@ -1,15 +1,21 @@
 //! Laws of the definitions, each the contract of a function that does nothing.
 
 ghost use Rattle.std.specs.Prelude.{◌≡◌, ◌≢◌, ◌<◌, ℕ, ◌+◌, List, [], ◌∷◌, ◌++◌, take, true};
-ghost use Rattle.std.specs.List.{prefix_len};
+ghost use Rattle.std.specs.List.{prefix_len, AllByRecursion};
 ghost use Rattle.gql_lex.specs.Classes.{begins_name, continues_name};
 ghost use Rattle.gql_lex.specs.Longest.{IsName, IsNumber, NoneIsLonger};
 ghost use Rattle.gql_lex.specs.Numbers.{integer_len, number_len};
+ghost use Rattle.gql_lex.specs.TokenPlaces.{IsPlaceIn};
 ghost use Rattle.gql_lex.specs.Tokens.{Lexeme, End, Lexes};
 
 /// The tokens of a text, and how they end, are determined.
 pub fn tokens_are_determined()
     ensures { (passed rest : List ℕ) → (ts us : List Lexeme) → (s e : End) → Lexes passed rest ts s → Lexes passed rest us e → (ts ≡ us) × (s ≡ e) }
+{}
+
+/// Each token of a text stands at a place in it.
+pub fn tokens_stand_in_their_text()
+    ensures { (text : List ℕ) → (tokens : List Lexeme) → (end : End) → Lexes [] text tokens end → AllByRecursion (λ token. IsPlaceIn text token.spot) tokens }
 {}
 
 /// Every text has tokens, and an end to them.

@@ -21,6 +21,9 @@ mod string;
 mod tests;
 mod token;
 
-pub use laws::{every_text_has_tokens, the_longest_are_counted, tokens_are_determined};
+pub use laws::{
+    every_text_has_tokens, the_longest_are_counted, tokens_are_determined,
+    tokens_stand_in_their_text,
+};
 pub use lexer::Lexer;
 pub use token::{LexRefusal, Token, TokenKind};

@@ -1,0 +1,5 @@
+use Rattle.gql_lex.proofs.TokenPlaces.{tokens_stand}
+use Rattle.gql_lex.proofs.laws.tokens_stand_in_their_text.Goals as goal
+
+pub returns : goal.returns
+returns c = tokens_stand
