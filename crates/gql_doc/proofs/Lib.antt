@@ -1,2 +1,6 @@
 pub mod Quoted
 pub mod Blocks
+pub mod WrittenStrings
+pub mod Writing
+pub mod PrintedForms
+pub mod UnplacedForms

@@ -4,3 +4,6 @@ pub mod Marks
 pub mod Grammar
 pub mod Nesting
 pub mod Answer
+pub mod Quoting
+pub mod Printed
+pub mod Unplaced
