@@ -4,3 +4,5 @@ pub mod WrittenStrings
 pub mod Writing
 pub mod PrintedForms
 pub mod UnplacedForms
+pub mod Follows
+pub mod FollowsGrammar
