@@ -1,6 +1,7 @@
 -- Tokens that say the same to the grammar: where some are a phrase, others that are alike are one of the same value.
 use Rattle.std.proofs.Common.{◌≡◌, ℕ, suc, inl, inr, Bool, true, List, [], ◌∷◌, ◌++◌, map, Option, Some, None, refl, sym, ◌∙◌, ap, subst}
 use Rattle.std.specs.Prelude.{◌==◌, ◌||◌, if◌then◌else◌, option_and_then}
+use Rattle.std.proofs.lemmas.Bool.{eqb-true}
 use Rattle.gql_lex.specs.Tokens.{Lexeme}
 use Rattle.gql_doc.specs.StringValue.{string_value}
 use Rattle.gql_doc.specs.Phrase.{Phrase, token, returns, ◌>>=◌, either, never, many, some, optional, listed}
@@ -122,7 +123,8 @@ follows_listed u first = follows_either first (follows_returns refl)
 
 -- ---- braces and brackets
 
-room_by : (ts os : List Lexeme) → ((room : ℕ) → room_after room os ≡ room_after room ts) → (left : Option ℕ) → option_and_then (λ room. room_after room os) left ≡ option_and_then (λ room. room_after room ts) left
+-- the same room left, and then tokens that leave the same
+pub room_by : (ts os : List Lexeme) → ((room : ℕ) → room_after room os ≡ room_after room ts) → (left : Option ℕ) → option_and_then (λ room. room_after room os) left ≡ option_and_then (λ room. room_after room ts) left
 room_by ts os same None = refl
 room_by ts os same (Some room) = same room
 
@@ -133,6 +135,11 @@ behind_class room c = if c == 91 || c == 123 then taken room else (if c == 93 ||
 behind_alike : (room : ℕ) (t o : Lexeme) → Alike t o → room_behind room o ≡ room_behind room t
 unfolding behind_class
 behind_alike room t o alike = ap (behind_class room) alike.class
+
+-- a name opens and closes nothing
+pub name_opens_none : (t : Lexeme) (room : ℕ) → is_name t ≡ true → room_behind room t ≡ Some room
+unfolding behind_class
+name_opens_none t room h = ap (behind_class room) (eqb-true (class t) 0 h)
 
 -- tokens that are alike nest alike
 pub room_alike : (ts os : List Lexeme) → AreAlike ts os → (room : ℕ) → room_after room os ≡ room_after room ts

@@ -10,6 +10,7 @@ use Rattle.gql_doc.specs.Marks.{is_mark, is_name, is_number, is_string, is_word,
 use Rattle.gql_doc.specs.Grammar
 use Rattle.gql_doc.specs.Unplaced.{nowhere, unplaced_value, unplaced_argument, unplaced_directive, unplaced_type, unplaced_variable, unplaced_selection, unplaced_definition, unplaced}
 use Rattle.gql_doc.proofs.UnplacedForms.{unplaced_Variable, unplaced_Int, unplaced_Text, unplaced_Bool, unplaced_Null, unplaced_Enum, unplaced_List, unplaced_Object, unplaced_argument-roll, unplaced_Named, unplaced_ListType, unplaced_NonNull, unplaced_Field, unplaced_Spread, unplaced_Inline}
+use Rattle.gql_doc.proofs.Words.{and_left, operation_type_named}
 use Rattle.gql_doc.proofs.Follows.{Alike, Follows, By, Any, OptionSame, follows_token, follows_returns, follows_bind, follows_either, follows_never, follows_many, follows_some, follows_optional, follows_listed}
 use Rattle.gql_model.specs.declared.syntax.Literal.{Literal}
 use Rattle.gql_model.specs.declared.syntax.Literal.TheVariants as literal
@@ -28,10 +29,6 @@ use Rattle.gql_model.specs.declared.syntax.Definition.TheVariants as definition
 
 abbrev pub SameText : Lexeme → Lexeme → Type 0
 SameText t o = t.text ≡ o.text
-
-and_left : (a b : Bool) → a && b ≡ true → a ≡ true
-and_left true b h = refl
-and_left false b h = h
 
 -- a test of a name is a test of its class and its text
 same_word : (test : Bool → List ℕ → Bool) (t o : Lexeme) → Alike t o → is_name t ≡ true → test (is_name t) t.text ≡ true → test (is_name o) o.text ≡ true
@@ -55,17 +52,13 @@ follows_word word = follows_token (is_word word) (λ t o alike h. (same_word (λ
 follows_fragment_name : Follows (token is_fragment_name) (token is_fragment_name) SameText
 follows_fragment_name = follows_token is_fragment_name (λ t o alike h. (same_word (λ b text. b && not (bytes_eq text (codes "on"))) t o alike (and_left _ _ h) h, alike.name (and_left _ _ h)))
 
-of_three : (b x y z : Bool) → (b && x) || ((b && y) || (b && z)) ≡ true → b ≡ true
-of_three true x y z h = refl
-of_three false x y z h = h
-
 operation_test : Bool → List ℕ → Bool
 operation_test b text = (b && bytes_eq text (codes "query")) || ((b && bytes_eq text (codes "mutation")) || (b && bytes_eq text (codes "subscription")))
 
 follows_operation_type : Follows (token is_operation_type) (token is_operation_type) SameText
 unfolding operation_test
 follows_operation_type = follows_token is_operation_type (λ t o alike h.
-    let named : is_name t ≡ true = of_three (is_name t) (bytes_eq t.text (codes "query")) (bytes_eq t.text (codes "mutation")) (bytes_eq t.text (codes "subscription")) h in
+    let named : is_name t ≡ true = operation_type_named t h in
     (same_word operation_test t o alike named h, alike.name named))
 
 -- what stands between two marks

@@ -4,5 +4,10 @@ pub mod WrittenStrings
 pub mod Writing
 pub mod PrintedForms
 pub mod UnplacedForms
+pub mod Words
 pub mod Follows
 pub mod FollowsGrammar
+pub mod Prints
+pub mod PrintsGrammar
+pub mod Shorter
+pub mod PrintedBack
