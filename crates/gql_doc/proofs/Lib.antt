@@ -13,3 +13,14 @@ pub mod Meant
 pub mod Written
 pub mod Lexed
 pub mod Parsed
+pub mod WrittenStrings
+pub mod Writing
+pub mod PrintedForms
+pub mod UnplacedForms
+pub mod Words
+pub mod Follows
+pub mod FollowsGrammar
+pub mod Prints
+pub mod PrintsGrammar
+pub mod Shorter
+pub mod PrintedBack

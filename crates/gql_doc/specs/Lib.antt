@@ -10,3 +10,5 @@ pub mod Reading
 pub mod Left
 pub mod TextEnds
 pub mod Outcomes
+pub mod Printed
+pub mod Unplaced

@@ -1,6 +1,13 @@
 //! Executable documents, by chapter 2 of the standard of October 2021.
 //!
-//! `string_value` says what a string token means; its definition is specs/StringValue.antt.
+//! `parse` reads a document, or says what is in the way of one. Its contract rests on the grammar, a
+//! relation between tokens and documents (specs/Grammar.antt), and on what the first thing in the way
+//! of a document is (specs/Answer.antt). How the parser's own functions read is specs/Reading.antt, of
+//! which no public clause speaks; proofs/Productions.antt shows that it is the grammar.
+//!
+//! `print` writes a document (specs/Printed.antt), and what it writes is that document again: the
+//! contract of `a_printed_document_reads_back`. `string_value` says what a string token means
+//! (specs/StringValue.antt).
 #![tactic(auto)]
 
 mod block_string;
@@ -9,6 +16,7 @@ mod laws;
 mod marks;
 mod parser;
 mod parsing;
+mod printing;
 mod quoted_string;
 mod refusal;
 mod selections;
@@ -19,7 +27,8 @@ mod variables;
 #[cfg(test)]
 mod tests;
 
-pub use laws::a_printed_string_reads_back;
+pub use laws::{a_printed_document_reads_back, a_printed_string_reads_back};
 pub use parsing::parse;
+pub use printing::print;
 pub use refusal::ParseRefusal;
 pub use string_token::string_value;

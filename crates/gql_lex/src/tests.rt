@@ -199,3 +199,28 @@ fn same_again(rt: HostRuntime) -> Result<(), Fail> {
     }
     Ok(())
 }
+
+/// Where a text ends.
+fn end_of(text: &str) -> Result<(u32, u32), Fail> {
+    if text.len() >= 4_294_967_295 {
+        return Err(Fail::new("too long"));
+    }
+    let Spot { line, column } = Lexer::new(text).end();
+    Ok((line, column))
+}
+
+#[test]
+fn ends(rt: HostRuntime) -> Result<(), Fail> {
+    let table = [
+        ("", (1, 1)),
+        ("{a}", (1, 4)),
+        ("a\n b ", (2, 4)),
+        ("a\r\n", (2, 1)),
+        ("#\u{e9}\r", (2, 1)),
+        ("\u{e9}\u{10ffff}", (1, 3)),
+    ];
+    for (text, end) in table {
+        assert_eq!(rt; end_of(text)?, end);
+    }
+    Ok(())
+}

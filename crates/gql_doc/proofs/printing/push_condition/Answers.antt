@@ -1,0 +1,12 @@
+use Rattle.std.proofs.Common.{ap, sym}
+use Rattle.std.proofs.lemmas.Result.{on_ok_weaker}
+use Rattle.gql_lex.specs.declared.token.TokenKind.TheVariants as kind
+use Rattle.gql_doc.specs.Printed.{printed_condition}
+use Rattle.gql_doc.proofs.Writing.{wrote, named}
+use Rattle.gql_doc.proofs.printing.push_condition.Goals as goal
+
+pub returns-in_ok-push_piece-in-Some : goal.returns-in_ok-push_piece-in-Some
+returns-in_ok-push_piece-in-Some c =
+    on_ok_weaker c.push_word.result
+    (λ h. named (ap printed_condition (sym c.in-Some.is)) (wrote (c.in_ok-push_piece-in-Some.ensures kind.Name) h))
+    c.push_word.ensures

@@ -1,0 +1,14 @@
+use Rattle.std.proofs.lemmas.Result.{on_ok_weaker}
+use Rattle.gql_lex.specs.declared.token.TokenKind.TheVariants as kind
+use Rattle.gql_doc.proofs.Writing.{wrote}
+use Rattle.gql_doc.proofs.printing.push_variable.Goals as goal
+
+pub returns : goal.returns
+returns c =
+    on_ok_weaker c.push_directives.result
+    (λ h. wrote (c.in_ok-push_piece.ensures kind.Punctuator)
+    (wrote c.in_ok-push_word.ensures
+    (wrote (c.in_ok-push_piece-2.ensures kind.Punctuator)
+    (wrote c.in_ok-push_type.ensures
+    (wrote c.in_ok-push_default.ensures h)))))
+    c.push_directives.ensures

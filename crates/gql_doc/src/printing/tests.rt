@@ -1,0 +1,202 @@
+//! Documents built by hand, and their texts.
+
+use crate::print;
+use gql_model::{
+    Argument, Boxed, Definition, DirectiveUse, Document, FieldNode, FragmentDef, InlineNode,
+    Literal, OperationDef, OperationKind, Selection, SpreadNode, TypeRef, VariableDef,
+};
+use gql_tree::{Listed, NoMemory, Spot, Text};
+use std::alloc::Global;
+use std::test::Fail;
+
+const HERE: Spot = Spot { line: 1, column: 1 };
+
+fn text(alloc: Global, letters: &str) -> Result<Text, NoMemory> {
+    Text::copy_of(alloc, letters)
+}
+
+fn one<T: Drop>(alloc: Global, item: T) -> Result<Listed<T>, NoMemory> {
+    let mut items = Listed::new(alloc);
+    items.push(item)?;
+    Ok(items)
+}
+
+fn two<T: Drop>(alloc: Global, first: T, second: T) -> Result<Listed<T>, NoMemory> {
+    let mut items = Listed::new(alloc);
+    items.push(first)?;
+    items.push(second)?;
+    Ok(items)
+}
+
+fn argument(alloc: Global, name: &str, value: Literal) -> Result<Argument, NoMemory> {
+    Ok(Argument {
+        name: text(alloc, name)?,
+        value,
+        spot: HERE,
+    })
+}
+
+/// A directive with one argument.
+fn directive(alloc: Global, name: &str, given: Argument) -> Result<DirectiveUse, NoMemory> {
+    Ok(DirectiveUse {
+        name: text(alloc, name)?,
+        arguments: one(alloc, given)?,
+        spot: HERE,
+    })
+}
+
+/// A field without an alias and arguments.
+fn field(
+    alloc: Global,
+    name: &str,
+    directives: Listed<DirectiveUse>,
+    selections: Listed<Selection>,
+) -> Result<Selection, NoMemory> {
+    Ok(Selection::Field(FieldNode {
+        alias: None,
+        name: text(alloc, name)?,
+        arguments: Listed::new(alloc),
+        directives,
+        selections,
+        spot: HERE,
+    }))
+}
+
+fn leaf(alloc: Global, name: &str) -> Result<Selection, NoMemory> {
+    field(alloc, name, Listed::new(alloc), Listed::new(alloc))
+}
+
+/// A query without a name, variables and directives.
+fn short_query(alloc: Global, selections: Listed<Selection>) -> OperationDef {
+    OperationDef {
+        kind: OperationKind::Query,
+        name: None,
+        variables: Listed::new(alloc),
+        directives: Listed::new(alloc),
+        selections,
+        spot: HERE,
+    }
+}
+
+fn printed(alloc: Global, definition: Definition) -> Result<Text, NoMemory> {
+    let document = Document {
+        definitions: one(alloc, definition)?,
+    };
+    print(alloc, &document)
+}
+
+/// The text of a query of one field with one argument.
+fn with_argument(alloc: Global, value: Literal) -> Result<Text, NoMemory> {
+    let given = argument(alloc, "of", value)?;
+    let asked = Selection::Field(FieldNode {
+        alias: Some(text(alloc, "b")?),
+        name: text(alloc, "a")?,
+        arguments: one(alloc, given)?,
+        directives: Listed::new(alloc),
+        selections: Listed::new(alloc),
+        spot: HERE,
+    });
+    printed(
+        alloc,
+        Definition::Operation(short_query(alloc, one(alloc, asked)?)),
+    )
+}
+
+#[test]
+fn operations(rt: HostRuntime) -> Result<(), Fail> {
+    let alloc = rt.alloc();
+    let condition = argument(alloc, "if", Literal::Variable(text(alloc, "a")?, HERE))?;
+    let include = one(alloc, directive(alloc, "include", condition)?)?;
+    let id = field(alloc, "id", include, Listed::new(alloc))?;
+    let hero = field(alloc, "hero", Listed::new(alloc), one(alloc, id)?)?;
+    let variable = VariableDef {
+        name: text(alloc, "a")?,
+        kind: TypeRef::Named(text(alloc, "Boolean")?, HERE),
+        default: Some(Literal::Bool(true, HERE)),
+        directives: Listed::new(alloc),
+        spot: HERE,
+    };
+    let mut query = short_query(alloc, one(alloc, hero)?);
+    query.name = Some(text(alloc, "Q")?);
+    query.variables = one(alloc, variable)?;
+    let got = printed(alloc, Definition::Operation(query))?;
+    assert_eq!(rt;
+        got.as_str(),
+        "query Q ( $ a : Boolean = true ) { hero { id @ include ( if : $ a ) } }"
+    );
+
+    let mut mutation = short_query(alloc, one(alloc, leaf(alloc, "id")?)?);
+    mutation.kind = OperationKind::Mutation;
+    let got = printed(alloc, Definition::Operation(mutation))?;
+    assert_eq!(rt; got.as_str(), "mutation { id }");
+    Ok(())
+}
+
+#[test]
+fn fragments(rt: HostRuntime) -> Result<(), Fail> {
+    let alloc = rt.alloc();
+    let inline = Selection::Inline(InlineNode {
+        condition: Some(text(alloc, "Droid")?),
+        directives: Listed::new(alloc),
+        selections: two(alloc, leaf(alloc, "id")?, leaf(alloc, "name")?)?,
+        spot: HERE,
+    });
+    let spread = Selection::Spread(SpreadNode {
+        name: text(alloc, "More")?,
+        directives: Listed::new(alloc),
+        spot: HERE,
+    });
+    let fragment = FragmentDef {
+        name: text(alloc, "F")?,
+        condition: text(alloc, "Hero")?,
+        condition_spot: HERE,
+        directives: Listed::new(alloc),
+        selections: two(alloc, inline, spread)?,
+        spot: HERE,
+    };
+    let got = printed(alloc, Definition::Fragment(fragment))?;
+    assert_eq!(rt;
+        got.as_str(),
+        "fragment F on Hero { ... on Droid { id name } ... More }"
+    );
+    Ok(())
+}
+
+#[test]
+fn strings(rt: HostRuntime) -> Result<(), Fail> {
+    let alloc = rt.alloc();
+    let table = [
+        ("", "{ b : a ( of : \"\" ) }"),
+        ("x y", "{ b : a ( of : \"x y\" ) }"),
+        ("\"\\\n", "{ b : a ( of : \"\\\"\\\\\\n\" ) }"),
+        (
+            "\u{0}\t\r\u{1f}",
+            "{ b : a ( of : \"\\u0000\\u0009\\u000d\\u001f\" ) }",
+        ),
+        (
+            "\u{e9}\u{1f600}\u{7f}",
+            "{ b : a ( of : \"\u{e9}\u{1f600}\u{7f}\" ) }",
+        ),
+    ];
+    for (value, want) in table {
+        let got = with_argument(alloc, Literal::Text(text(alloc, value)?, HERE))?;
+        assert_eq!(rt; got.as_str(), want, "{value}");
+    }
+    Ok(())
+}
+
+#[test]
+fn values(rt: HostRuntime) -> Result<(), Fail> {
+    let alloc = rt.alloc();
+    let number = Literal::Int(text(alloc, "-7")?, HERE);
+    let items = two(alloc, number, Literal::Null(HERE))?;
+    let member = argument(alloc, "c", Literal::Enum(text(alloc, "RED")?, HERE))?;
+    let object = Literal::Object(one(alloc, member)?, HERE);
+    let list = Literal::List(two(alloc, Literal::List(items, HERE), object)?, HERE);
+    let got = with_argument(alloc, list)?;
+    assert_eq!(rt;
+        got.as_str(),
+        "{ b : a ( of : [ [ -7 null ] { c : RED } ] ) }"
+    );
+    Ok(())
+}
