@@ -1,12 +1,14 @@
 -- The request that the files are, and the client in the end.
-use Rattle.std.proofs.Common.{◌≡◌, sym, ◌∙◌, subst, ℕ, List, Option, None, Some, inl, inr}
+use Rattle.std.proofs.Common.{◌≡◌, ◌∙◌, subst, ℕ, List, Option, None, Some, inl, inr}
 use Rattle.gql_io.specs.Files.{Files}
 use Rattle.gql_tool.specs.declared.status.Status.{Status}
 use Rattle.gql_tool.specs.declared.status.Status.TheVariants.{Done, WriteFault, NoMemory, StreamRefused}
-use Rattle.gql_tool.specs.declared.document.HeroDocument.{HeroDocument}
+use Rattle.gql_tool.specs.declared.shape.HeroDocument.{HeroDocument}
 use Rattle.gql_tool.specs.declared.tables.HeroTables.{HeroTables}
 use Rattle.gql_tool.specs.declared.client.Client.{Client}
-use Rattle.gql_tool.specs.Local.{built}
+use Rattle.gql_tool.specs.declared.request.Request.{Request}
+use Rattle.gql_tool.specs.declared.request.Request.TheVariants.{Built}
+use Rattle.gql_tool.specs.Local.{Judged}
 use Rattle.gql_tool.specs.LocalClient.{Asks, ClientEnds}
 use Rattle.gql_tool.specs.Meets.{Finds}
 
@@ -20,18 +22,19 @@ ends_as A B cut old new NoMemory also ends = tt
 ends_as A B cut old new _ also ends = ends
 
 -- the three files that were found
-asks : (told : Option Files) (schema tables document vars s b c : List ℕ) (t : HeroTables) (d : HeroDocument) → Finds told schema s → Finds told tables b → Finds told document c → built vars s b c ≡ Some (t, d)
+asks : (told : Option Files) (schema tables document vars s b c : List ℕ) (t : HeroTables) (d : HeroDocument) → Finds told schema s → Finds told tables b → Finds told document c → Judged vars s b c (Built t d)
     → Asks told schema tables document vars t d
 asks None schema tables document vars s b c t d has_s has_b has_c is = tt
 asks (Some files) schema tables document vars s b c t d has_s has_b has_c is = (s, b, c, has_s, has_b, has_c, is)
 
-pub client_of : (told second third : Option Files) (schema tables document vars s b c x y z : List ℕ) (request : Option (HeroTables × HeroDocument)) (cut : ℕ) (old new : Client) (status : Status)
-    → second ≡ told → third ≡ second → Finds told schema s → Finds second tables b → Finds third document c → x ≡ s → y ≡ b → z ≡ c → request ≡ built vars x y z
-    → ClientEnds (λ t d. request ≡ Some (t, d)) cut old new status → ClientEnds (Asks told schema tables document vars) cut old new status
+pub client_of : (told second third : Option Files) (schema tables document vars s b c x y z : List ℕ) (request : Request) (cut : ℕ) (old new : Client) (status : Status)
+    → second ≡ told → third ≡ second → Finds told schema s → Finds second tables b → Finds third document c → x ≡ s → y ≡ b → z ≡ c → Judged vars x y z request
+    → ClientEnds (λ t d. request ≡ Built t d) cut old new status → ClientEnds (Asks told schema tables document vars) cut old new status
 client_of told second third schema tables document vars s b c x y z request cut old new status is_second is_third has_s has_b has_c is_s is_b is_c is ends =
     let here : (f : Option Files) → f ≡ told → (name bytes : List ℕ) → Finds f name bytes → Finds told name bytes = λ f same name bytes has. subst (λ (o : Option Files). Finds o name bytes) same has in
-    ends_as (λ t d. request ≡ Some (t, d)) (Asks told schema tables document vars) cut old new status
+    ends_as (λ t d. request ≡ Built t d) (Asks told schema tables document vars) cut old new status
     (λ t d asked.
-    (let same : built vars s b c ≡ built vars x y z = λ i. built vars (sym is_s i) (sym is_b i) (sym is_c i) in
-    asks told schema tables document vars s b c t d has_s (here second is_second tables b has_b) (here third (is_third ∙ is_second) document c has_c) (same ∙ (sym is ∙ asked))))
+    (let judged : Judged vars x y z (Built t d) = subst (Judged vars x y z) asked is in
+    asks told schema tables document vars s b c t d has_s (here second is_second tables b has_b) (here third (is_third ∙ is_second) document c has_c)
+    (subst (λ (e : List ℕ). Judged vars s b e (Built t d)) is_c (subst (λ (e : List ℕ). Judged vars s e z (Built t d)) is_b (subst (λ (e : List ℕ). Judged vars e y z (Built t d)) is_s judged)))))
     ends

@@ -1,5 +1,5 @@
 -- How a request that is executed ends: what is written, and what the client is.
-use Rattle.std.proofs.Common.{◌≡◌, refl, sym, ap, ◌∙◌, subst, inl, inr, ℕ, ◌<◌, append_assoc, append-nil, zero-add, List, [], ◌∷◌, ◌++◌, length, map, Option, Some, Result, Ok, Err, IfErr}
+use Rattle.std.proofs.Common.{◌≡◌, refl, sym, ap, ◌∙◌, subst, inl, inr, ℕ, ◌<◌, append_assoc, append-nil, zero-add, List, [], ◌∷◌, ◌++◌, length, map, Option, Result, Ok, Err, IfErr}
 use Rattle.std.specs.Prelude.{◌⊎◌, codes}
 use Rattle.std.specs.List.{AllByRecursion as Each}
 use Rattle.std.specs.Result.{IsErrAnd}
@@ -17,8 +17,9 @@ use Rattle.gql_merge.specs.Lone.{IsLone}
 use Rattle.gql_merge.specs.Merging.{HasMerged}
 use Rattle.gql_tool.specs.declared.status.Status.{Status}
 use Rattle.gql_tool.specs.declared.status.Status.TheVariants.{Done, WriteFault, NoMemory, StreamRefused}
-use Rattle.gql_tool.specs.declared.document.HeroDocument.{HeroDocument}
+use Rattle.gql_tool.specs.declared.shape.HeroDocument.{HeroDocument}
 use Rattle.gql_tool.specs.declared.tables.HeroTables.{HeroTables}
+use Rattle.gql_tool.specs.declared.request.Request.TheVariants.{Built}
 use Rattle.gql_tool.specs.declared.client.Client.{Client}
 use Rattle.gql_tool.specs.Client.{counted}
 use Rattle.gql_tool.specs.Heard.{nothing_heard, IsRefused}
@@ -67,17 +68,17 @@ module _ (t : HeroTables) (d : HeroDocument) (once : EachOnce d) (stands : RefSt
 
   -- ---- right outcomes
 
-  delivered_way : Each Fits (texts t d) → (line : List ℕ) → IsMergedLine (regions t d) line → Answered (Some (t, d)) (record { status = Done; bytes = body t d ++ line })
+  delivered_way : Each Fits (texts t d) → (line : List ℕ) → IsMergedLine (regions t d) line → Answered (Built t d) (record { status = Done; bytes = body t d ++ line })
   delivered_way fit line merged = inl (record { fit = fit; line = line; is_merged = merged; is = refl })
 
   cut_off_way : (before : List (List ℕ)) (text : List ℕ) (after : List (List ℕ)) → texts t d ≡ before ++ text ∷ after → Each Fits before → part_limit < length text
-      → Answered (Some (t, d)) (record { status = StreamRefused; bytes = up_to before text after })
+      → Answered (Built t d) (record { status = StreamRefused; bytes = up_to before text after })
   cut_off_way before text after all fit long = inr (record { before = before; text = text; after = after; all = all; fit = fit; too_long = long; is = refl })
 
   -- what was put is a front of what a right outcome writes
   module _ (a b : Option (List ℕ)) where
     front_by : (before : List (List ℕ)) (text : List ℕ) (after : List (List ℕ)) → texts t d ≡ before ++ text ∷ after → Each Fits before → AppendsPrefix a b (up_to before text after)
-        → Each Fits (text ∷ after) ⊎ TooLongIn (text ∷ after) → Front (Answered (Some (t, d))) a b
+        → Each Fits (text ∷ after) ⊎ TooLongIn (text ∷ after) → Front (Answered (Built t d)) a b
     front_by before text after all fit some (inl rest) =
         let line = line_of (regions t d) (hero_has_a_response t d once stands) in
         let whole = up_to-frame before text after in
@@ -88,7 +89,7 @@ module _ (t : HeroTables) (d : HeroDocument) (once : EachOnce d) (stands : RefSt
         )
     front_by before text after all fit some (inr long) = long_by long.before long.text long.after long.all long.fit long.long
       where
-        long_by : (between : List (List ℕ)) (u : List ℕ) (rest : List (List ℕ)) → text ∷ after ≡ between ++ u ∷ rest → Each Fits between → part_limit < length u → Front (Answered (Some (t, d))) a b
+        long_by : (between : List (List ℕ)) (u : List ℕ) (rest : List (List ℕ)) → text ∷ after ≡ between ++ u ∷ rest → Each Fits between → part_limit < length u → Front (Answered (Built t d)) a b
         long_by [] u rest is within more =
             let same : text ≡ u = cc in
             let tail : after ≡ rest = cc in (
@@ -116,7 +117,7 @@ module _ (t : HeroTables) (d : HeroDocument) (once : EachOnce d) (stands : RefSt
     before_fit : (before : List Payload) → Goes c (so_far (map payload_text before)) → Each Fits (map payload_text before)
     before_fit before goes = so_far_fits (map payload_text before) (payload_lines before) (goes (nothing_heard dash) fresh.stands)
 
-    reached_front : (a b : Option (List ℕ)) → Reached payloads a b c → Front (Answered (Some (t, d))) a b
+    reached_front : (a b : Option (List ℕ)) → Reached payloads a b c → Front (Answered (Built t d)) a b
     reached_front a b reached =
         front_by a b (map payload_text reached.before) (payload_text reached.payload) (map payload_text reached.after) (texts-split reached.before reached.payload reached.after reached.all)
         (before_fit reached.before reached.goes) reached.put (all_fit_or (payload_text reached.payload ∷ map payload_text reached.after))
@@ -171,7 +172,7 @@ module _ (t : HeroTables) (d : HeroDocument) (once : EachOnce d) (stands : RefSt
 
     -- how it ends
     abbrev Ending : Status → Option (List ℕ) → Option (List ℕ) → ℕ → Client → Type 0
-    Ending s a b cut new = Meets (Answered (Some (t, d))) s a b × ClientEnds Asked cut c new s
+    Ending s a b cut new = Meets (Answered (Built t d)) s a b × ClientEnds Asked cut c new s
 
     failing : (cut : ℕ) (a b : Option (List ℕ)) (new : Client) (s : Status) → HandedAll payloads cut a b c new (Err s) → Ending s a b cut new
     failing cut a b new StreamRefused h = (
@@ -200,7 +201,7 @@ module _ (t : HeroTables) (d : HeroDocument) (once : EachOnce d) (stands : RefSt
       abbrev outcome : Outcome
       outcome = record { status = Done; bytes = body t d ++ merged_line new.merger.state }
 
-      right : Answered (Some (t, d)) outcome
+      right : Answered (Built t d) outcome
       right = delivered_way all_fit (merged_line new.merger.state) line
 
       took_body : TookBody t d cut new
@@ -221,12 +222,12 @@ module _ (t : HeroTables) (d : HeroDocument) (once : EachOnce d) (stands : RefSt
 
 pub executed-failing : (t : HeroTables) (d : HeroDocument) (once : EachOnce d) (stands : RefStands t) (placed : IsPlaced d) (c : Client) (fresh : IsNew c) (cut : ℕ) (a b : Option (List ℕ)) (new : Client)
     (r : Result (Unit {0}) Status) (s : Status) → IsErrAnd r (λ e. e ≡ s) → HandedAll (first_payloads (regions t d)) cut a b c new (Err s)
-    → Meets (Answered (Some (t, d))) (ended r) a b × ClientEnds (λ u e. (u ≡ t) × (e ≡ d)) cut c new (ended r)
+    → Meets (Answered (Built t d)) (ended r) a b × ClientEnds (λ u e. (u ≡ t) × (e ≡ d)) cut c new (ended r)
 executed-failing t d once stands placed c fresh cut a b new (Ok x) s err h = absurd err
 executed-failing t d once stands placed c fresh cut a b new (Err e) s err h =
-    subst (λ (x : Status). Meets (Answered (Some (t, d))) x a b × ClientEnds (λ u e. (u ≡ t) × (e ≡ d)) cut c new x) (sym err) (failing t d once stands placed c fresh cut a b new s h)
+    subst (λ (x : Status). Meets (Answered (Built t d)) x a b × ClientEnds (λ u e. (u ≡ t) × (e ≡ d)) cut c new x) (sym err) (failing t d once stands placed c fresh cut a b new s h)
 
 pub executed-ending : (t : HeroTables) (d : HeroDocument) (once : EachOnce d) (stands : RefStands t) (placed : IsPlaced d) (c : Client) (fresh : IsNew c) (cut : ℕ) (a b e : Option (List ℕ)) (new : Client)
     (r : Result (Unit {0}) Status) → HandedAll (first_payloads (regions t d)) cut a b c new (Ok tt) → Puts b e (merged_line new.merger.state) r → IfErr r (λ s. (s ≡ NoMemory) ⊎ (s ≡ WriteFault))
-    → Meets (Answered (Some (t, d))) (ended r) a e × ClientEnds (λ u e. (u ≡ t) × (e ≡ d)) cut c new (ended r)
+    → Meets (Answered (Built t d)) (ended r) a e × ClientEnds (λ u e. (u ≡ t) × (e ≡ d)) cut c new (ended r)
 executed-ending t d once stands placed c fresh cut a b e new r h put statuses = ending t d once stands placed c fresh cut a b new h e r put statuses

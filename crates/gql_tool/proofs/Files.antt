@@ -9,10 +9,9 @@ use Rattle.gql_io.specs.declared.shelf.ShelfRefusal.TheVariants.{Missing, TooLon
 use Rattle.gql_io.proofs.Told.{Prefix-kept}
 use Rattle.gql_tool.specs.declared.status.Status.{Status}
 use Rattle.gql_tool.specs.declared.status.Status.TheVariants.{ReadFault, WriteFault, NoMemory, NoFile, TooLong}
-use Rattle.gql_tool.specs.declared.document.HeroDocument.{HeroDocument}
-use Rattle.gql_tool.specs.declared.tables.HeroTables.{HeroTables}
+use Rattle.gql_tool.specs.declared.request.Request.{Request}
 use Rattle.gql_tool.specs.Outcome.{Outcome, Ways, AfterFile, names, file_limit}
-use Rattle.gql_tool.specs.Local.{built, Answered}
+use Rattle.gql_tool.specs.Local.{Judged, Answered, RequestWays}
 use Rattle.gql_tool.specs.Meets.{Meets, MeetsTold, Finds, FileStops, StopsAt, ended}
 
 Appends-kept_first : (a b c : Option (List ℕ)) (bytes : List ℕ) → Keeps a b → Appends b c bytes → Appends a c bytes
@@ -108,12 +107,12 @@ at_end told of (Err e) status a b err meets = subst (λ (s : Status). MeetsTold 
 
 -- a request by the bytes that its slices have
 pub same_request : (vars s t d schema tables document : List ℕ) (status : Status) (a b : Option (List ℕ)) → s ≡ schema → t ≡ tables → d ≡ document
-    → Meets (Answered (built vars s t d)) status a b → Meets (Answered (built vars schema tables document)) status a b
+    → Meets (RequestWays vars s t d) status a b → Meets (RequestWays vars schema tables document) status a b
 same_request vars s t d schema tables document status a b is_schema is_tables is_document meets =
-    subst (λ (x : List ℕ). Meets (Answered (built vars schema tables x)) status a b) is_document
-    (subst (λ (x : List ℕ). Meets (Answered (built vars schema x d)) status a b) is_tables
-    (subst (λ (x : List ℕ). Meets (Answered (built vars x t d)) status a b) is_schema meets))
+    subst (λ (x : List ℕ). Meets (RequestWays vars schema tables x) status a b) is_document
+    (subst (λ (x : List ℕ). Meets (RequestWays vars schema x d) status a b) is_tables
+    (subst (λ (x : List ℕ). Meets (RequestWays vars x t d) status a b) is_schema meets))
 
--- a request by what it is
-pub meets_of : (request is : Option (HeroTables × HeroDocument)) (status : Status) (a b : Option (List ℕ)) → request ≡ is → Meets (Answered request) status a b → Meets (Answered is) status a b
-meets_of request is status a b same meets = subst (λ (o : Option (HeroTables × HeroDocument)). Meets (Answered o) status a b) same meets
+-- a request by what it is judged to be
+pub meets_of : (vars s t d : List ℕ) (request : Request) (status : Status) (a b : Option (List ℕ)) → Judged vars s t d request → Meets (Answered request) status a b → Meets (RequestWays vars s t d) status a b
+meets_of vars s t d request status a b judged meets = Meets-more (Answered request) (RequestWays vars s t d) status a b (λ o right. (request, judged, right)) meets

@@ -12,7 +12,7 @@ use Rattle.gql_model.specs.declared.Node.{Node}
 use Rattle.gql_model.specs.World.{World}
 use Rattle.gql_model.specs.Lists.{firsts, under, gathered}
 use Rattle.gql_model.specs.Collect.{Met, field, met_child, occurrences, fragments, merged}
-use Rattle.gql_tool.specs.declared.document.Leaf.{Leaf}
+use Rattle.gql_tool.specs.declared.shape.Leaf.{Leaf}
 use Rattle.gql_tool.specs.Operation.{name_of, leaf_node}
 
 -- ---- nodes at their places

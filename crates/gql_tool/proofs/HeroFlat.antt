@@ -12,10 +12,10 @@ use Rattle.gql_tree.specs.declared.Value.TheVariants as v
 use Rattle.gql_tree.specs.Names.{named}
 use Rattle.gql_tree.specs.Flat.{Mark, object, mark_of, below, find, flat}
 use Rattle.gql_tree.specs.Union.{Clashes, moved}
-use Rattle.gql_tool.specs.declared.document.LeafName.{LeafName}
-use Rattle.gql_tool.specs.declared.document.Leaf.{Leaf}
+use Rattle.gql_tool.specs.declared.shape.LeafName.{LeafName}
+use Rattle.gql_tool.specs.declared.shape.Leaf.{Leaf}
 use Rattle.gql_tool.specs.declared.tables.Person.{Person}
-use Rattle.gql_tool.specs.Document.{same_name, times}
+use Rattle.gql_tool.specs.Shape.{same_name, times}
 use Rattle.gql_tool.specs.Operation.{name_of}
 use Rattle.gql_tool.specs.Hero.{hero_path, hero_object, leaf_member, leaf_members}
 use Rattle.gql_tool.proofs.HeroOnce.{times-cons, count_true, count_none, names-differ, same_name-self, fewer}

@@ -19,16 +19,16 @@ use Rattle.gql_model.specs.declared.Node.{Node}
 use Rattle.gql_model.specs.Complete.{Part, fault_at, is_bubble}
 use Rattle.gql_model.specs.Region.{initial_region, task_region}
 use Rattle.gql_model.specs.Operations.{forest_below, forest}
-use Rattle.gql_tool.specs.declared.document.Leaf.{Leaf}
-use Rattle.gql_tool.specs.declared.document.Deferred.{Deferred}
-use Rattle.gql_tool.specs.declared.document.HeroDocument.{HeroDocument}
+use Rattle.gql_tool.specs.declared.shape.Leaf.{Leaf}
+use Rattle.gql_tool.specs.declared.shape.Deferred.{Deferred}
+use Rattle.gql_tool.specs.declared.shape.HeroDocument.{HeroDocument}
 use Rattle.gql_tool.specs.declared.tables.LeafCell.{LeafCell}
 use Rattle.gql_tool.specs.declared.tables.LeafCell.TheVariants.{Null, Int, Text, Error}
 use Rattle.gql_tool.specs.declared.tables.Person.{Person}
 use Rattle.gql_tool.specs.declared.tables.HeroTables.{HeroTables}
 use Rattle.gql_tool.specs.declared.tables.HeroCell.{HeroCell}
 use Rattle.gql_tool.specs.declared.tables.HeroCell.TheVariants as hero_cells
-use Rattle.gql_tool.specs.Document.{deferred_leaves_of}
+use Rattle.gql_tool.specs.Shape.{deferred_leaves_of}
 use Rattle.gql_tool.specs.Operation.{nodes_of}
 use Rattle.gql_tool.specs.Service.{service, query}
 use Rattle.gql_tool.specs.Hero.{hero_path, is_required, cell_under, cell_part, leaf_path, leaf_part, leaf_members, leaf_faults, some_bubble, hero_object, EachOnce, RefStands}

@@ -12,7 +12,7 @@ use Rattle.gql_model.specs.declared.Node.{Node}
 use Rattle.gql_model.specs.Lists.{firsts, under, gathered}
 use Rattle.gql_model.specs.Owners.{is_above, owners}
 use Rattle.gql_model.specs.Objects.{is_own, groups_at}
-use Rattle.gql_tool.specs.declared.document.Leaf.{Leaf}
+use Rattle.gql_tool.specs.declared.shape.Leaf.{Leaf}
 use Rattle.gql_tool.specs.Operation.{name_of}
 use Rattle.gql_tool.specs.Hero.{hero_path}
 use Rattle.gql_tool.proofs.HeroFields.{leaf_details}

@@ -12,9 +12,9 @@ use Rattle.gql_model.specs.World.{Cell}
 use Rattle.gql_model.specs.Tables.{row_of, TableRow, cell_of}
 use Rattle.gql_model.specs.Complete.{Part, Found, complete}
 use Rattle.gql_model.specs.Objects.{executed_at, node_of, field_part, stream_at}
-use Rattle.gql_tool.specs.declared.document.LeafName.{LeafName}
-use Rattle.gql_tool.specs.declared.document.LeafName.TheVariants.{Id, Name, Age, Boom}
-use Rattle.gql_tool.specs.declared.document.Leaf.{Leaf}
+use Rattle.gql_tool.specs.declared.shape.LeafName.{LeafName}
+use Rattle.gql_tool.specs.declared.shape.LeafName.TheVariants.{Id, Name, Age, Boom}
+use Rattle.gql_tool.specs.declared.shape.Leaf.{Leaf}
 use Rattle.gql_tool.specs.declared.tables.LeafCell.{LeafCell}
 use Rattle.gql_tool.specs.declared.tables.LeafCell.TheVariants.{Null, Int, Text, Error}
 use Rattle.gql_tool.specs.declared.tables.Person.{Person}

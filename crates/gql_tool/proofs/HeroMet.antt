@@ -14,9 +14,9 @@ use Rattle.gql_model.specs.declared.NodeKind.TheVariants.{Field, Fragment}
 use Rattle.gql_model.specs.World.{World}
 use Rattle.gql_model.specs.Collect.{Met, field, deferred, met, met_below, met_child, occurrences, fragments}
 use Rattle.gql_model.specs.Owners.{above, ancestors, is_above}
-use Rattle.gql_tool.specs.declared.document.Leaf.{Leaf}
-use Rattle.gql_tool.specs.declared.document.Deferred.{Deferred}
-use Rattle.gql_tool.specs.declared.document.HeroDocument.{HeroDocument}
+use Rattle.gql_tool.specs.declared.shape.Leaf.{Leaf}
+use Rattle.gql_tool.specs.declared.shape.Deferred.{Deferred}
+use Rattle.gql_tool.specs.declared.shape.HeroDocument.{HeroDocument}
 use Rattle.gql_tool.specs.Operation.{leaf_node, nodes_of, deferred_nodes}
 use Rattle.gql_tool.specs.Hero.{hero_path}
 use Rattle.gql_tool.proofs.HeroFields.{Placed, placed, placed_by, leaf_mets, leaf_pairs, met_child-leaves, occurrences-leaves, fragments-leaves, append-nil}

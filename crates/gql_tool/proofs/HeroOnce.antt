@@ -11,11 +11,11 @@ use Rattle.std.proofs.lemmas.List.Sums.{sum_by-cons}
 use Rattle.gql_tree.specs.declared.FragId.{FragId}
 use Rattle.gql_tree.specs.declared.Occurrence.{Occurrence}
 use Rattle.gql_tree.specs.Names.{has_name, apart}
-use Rattle.gql_tool.specs.declared.document.LeafName.{LeafName}
-use Rattle.gql_tool.specs.declared.document.LeafName.TheVariants.{Id, Name, Age, Boom}
-use Rattle.gql_tool.specs.declared.document.Leaf.{Leaf}
+use Rattle.gql_tool.specs.declared.shape.LeafName.{LeafName}
+use Rattle.gql_tool.specs.declared.shape.LeafName.TheVariants.{Id, Name, Age, Boom}
+use Rattle.gql_tool.specs.declared.shape.Leaf.{Leaf}
 use Rattle.gql_tool.specs.declared.tables.Person.{Person}
-use Rattle.gql_tool.specs.Document.{same_name, times}
+use Rattle.gql_tool.specs.Shape.{same_name, times}
 use Rattle.gql_tool.specs.Operation.{name_of}
 use Rattle.gql_tool.specs.Hero.{leaf_member}
 use Rattle.gql_tool.proofs.HeroFields.{leaf_pairs, KeysApart, Other}

@@ -16,9 +16,9 @@ use Rattle.gql_model.specs.World.{World}
 use Rattle.gql_model.specs.Complete.{fault_at}
 use Rattle.gql_model.specs.Region.{initial_region, group_region}
 use Rattle.gql_model.specs.Operations.{forest}
-use Rattle.gql_tool.specs.declared.document.Leaf.{Leaf}
-use Rattle.gql_tool.specs.declared.document.Deferred.{Deferred}
-use Rattle.gql_tool.specs.declared.document.HeroDocument.{HeroDocument}
+use Rattle.gql_tool.specs.declared.shape.Leaf.{Leaf}
+use Rattle.gql_tool.specs.declared.shape.Deferred.{Deferred}
+use Rattle.gql_tool.specs.declared.shape.HeroDocument.{HeroDocument}
 use Rattle.gql_tool.specs.declared.tables.Person.{Person}
 use Rattle.gql_tool.specs.declared.tables.HeroTables.{HeroTables}
 use Rattle.gql_tool.specs.declared.tables.HeroCell.{HeroCell}

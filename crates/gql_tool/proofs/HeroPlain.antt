@@ -28,15 +28,15 @@ use Rattle.gql_model.specs.Complete.{Part, Found, bubble, good, no_found, value_
 use Rattle.gql_model.specs.Objects.{stream_at, object_value, field_part, object_part, groups_at, is_own}
 use Rattle.gql_model.specs.Region.{region_of, initial_region}
 use Rattle.gql_model.specs.Plain.{undeferred, plain}
-use Rattle.gql_tool.specs.declared.document.Leaf.{Leaf}
-use Rattle.gql_tool.specs.declared.document.Deferred.{Deferred}
-use Rattle.gql_tool.specs.declared.document.HeroDocument.{HeroDocument}
+use Rattle.gql_tool.specs.declared.shape.Leaf.{Leaf}
+use Rattle.gql_tool.specs.declared.shape.Deferred.{Deferred}
+use Rattle.gql_tool.specs.declared.shape.HeroDocument.{HeroDocument}
 use Rattle.gql_tool.specs.declared.tables.Person.{Person}
 use Rattle.gql_tool.specs.declared.tables.HeroTables.{HeroTables}
 use Rattle.gql_tool.specs.declared.tables.HeroCell.{HeroCell}
 use Rattle.gql_tool.specs.declared.tables.HeroCell.TheVariants as hero_cells
 use Rattle.gql_tool.specs.HeroTables.{hero_row}
-use Rattle.gql_tool.specs.Document.{deferred_leaves_of}
+use Rattle.gql_tool.specs.Shape.{deferred_leaves_of}
 use Rattle.gql_tool.specs.Operation.{name_of, leaf_node, deferred_nodes, nodes_of}
 use Rattle.gql_tool.specs.Service.{service, query}
 use Rattle.gql_tool.specs.Hero.{hero_path, leaf_part, leaf_parts, leaf_member, leaf_members, leaf_faults, some_bubble, EachOnce}

@@ -24,8 +24,8 @@ use Rattle.gql_model.specs.Collect.{Met, met, merged, fragments}
 use Rattle.gql_model.specs.Complete.{Part, Found, bubble, good, no_found, value_in, found_in, with_parts, whole, soft, complete}
 use Rattle.gql_model.specs.Objects.{stream_at, object_value, field_part, object_part, object_at, object_from, groups_at, is_own}
 use Rattle.gql_model.specs.Region.{region_of, failed, initial_region, group_region}
-use Rattle.gql_tool.specs.declared.document.Leaf.{Leaf}
-use Rattle.gql_tool.specs.declared.document.Deferred.{Deferred}
+use Rattle.gql_tool.specs.declared.shape.Leaf.{Leaf}
+use Rattle.gql_tool.specs.declared.shape.Deferred.{Deferred}
 use Rattle.gql_tool.specs.declared.tables.LeafCell.{LeafCell}
 use Rattle.gql_tool.specs.declared.tables.LeafCell.TheVariants.{Null, Int, Text, Error}
 use Rattle.gql_tool.specs.declared.tables.Person.{Person}
@@ -33,7 +33,7 @@ use Rattle.gql_tool.specs.declared.tables.HeroTables.{HeroTables}
 use Rattle.gql_tool.specs.declared.tables.HeroCell.{HeroCell}
 use Rattle.gql_tool.specs.declared.tables.HeroCell.TheVariants as hero_cells
 use Rattle.gql_tool.specs.HeroTables.{hero_row}
-use Rattle.gql_tool.specs.Document.{times, deferred_leaves_of}
+use Rattle.gql_tool.specs.Shape.{times, deferred_leaves_of}
 use Rattle.gql_tool.specs.Operation.{leaf_node, name_of, deferred_nodes}
 use Rattle.gql_tool.specs.Service.{service, query}
 use Rattle.gql_tool.specs.Hero.{hero_path, is_required, cell_under, cell_part, leaf_part, leaf_member, leaf_parts, leaf_members, leaf_faults, some_bubble}
@@ -130,7 +130,7 @@ module _ (t : HeroTables) (spot hero : Spot) (leaves : List Leaf) (n : ℕ) (p :
       ∙ (ap (λ (ps : List Part). whole (object_value (leaf_details 2 None leaves)) f ps) parts ∙ whole-leaves p 2 None f leaves)))
 
   abbrev EachOnce : Option Deferred → Type 0
-  EachOnce o = (a : Rattle.gql_tool.specs.declared.document.LeafName.LeafName) → times a leaves + times a (deferred_leaves_of o) ≤ 1
+  EachOnce o = (a : Rattle.gql_tool.specs.declared.shape.LeafName.LeafName) → times a leaves + times a (deferred_leaves_of o) ≤ 1
 
   hero_object-None : (deep : ℕ) → EachOnce None → object_part (service t) (ns None) (suc deep) [] (person n) hero_occurrence hero_path ≡ leaves_part p no_found leaves
   hero_object-None deep once =

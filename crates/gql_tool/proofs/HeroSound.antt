@@ -29,16 +29,16 @@ use Rattle.gql_tree.specs.FirstPayloads.{first_payloads}
 use Rattle.gql_tree.proofs.Json.{data_Null, data_Int, data_Text, data_Object}
 use Rattle.gql_model.specs.Complete.{Part, fault_at, value_in}
 use Rattle.gql_model.specs.Operations.{forest}
-use Rattle.gql_tool.specs.declared.document.Leaf.{Leaf}
-use Rattle.gql_tool.specs.declared.document.Deferred.{Deferred}
-use Rattle.gql_tool.specs.declared.document.HeroDocument.{HeroDocument}
+use Rattle.gql_tool.specs.declared.shape.Leaf.{Leaf}
+use Rattle.gql_tool.specs.declared.shape.Deferred.{Deferred}
+use Rattle.gql_tool.specs.declared.shape.HeroDocument.{HeroDocument}
 use Rattle.gql_tool.specs.declared.tables.LeafCell.{LeafCell}
 use Rattle.gql_tool.specs.declared.tables.LeafCell.TheVariants.{Null, Int, Text, Error}
 use Rattle.gql_tool.specs.declared.tables.Person.{Person}
 use Rattle.gql_tool.specs.declared.tables.HeroTables.{HeroTables}
 use Rattle.gql_tool.specs.declared.tables.HeroCell.{HeroCell}
 use Rattle.gql_tool.specs.declared.tables.HeroCell.TheVariants as hero_cells
-use Rattle.gql_tool.specs.Document.{deferred_leaves_of}
+use Rattle.gql_tool.specs.Shape.{deferred_leaves_of}
 use Rattle.gql_tool.specs.Operation.{nodes_of}
 use Rattle.gql_tool.specs.Service.{service, query}
 use Rattle.gql_tool.specs.Hero.{hero_path, is_required, cell_under, cell_part, leaf_path, leaf_part, leaf_members, leaf_faults, some_bubble, hero_object, single, announcing, completing_by, standing_payloads, person_payloads, person_payloads_by, EachOnce, RefStands, IsSpot, ArePlaced, IsPlaced}

@@ -34,19 +34,20 @@ use Rattle.gql_payload.proofs.Utf8.{IsUtf8Data, AreUtf8Items, AreUtf8Members, Is
 use Rattle.gql_payload.proofs.Utf8Read.{put_utf8}
 use Rattle.gql_model.specs.Complete.{fault_at, null_message, value_in}
 use Rattle.gql_model.specs.Operations.{forest}
-use Rattle.gql_tool.specs.declared.document.LeafName.{LeafName}
-use Rattle.gql_tool.specs.declared.document.LeafName.TheVariants.{Id, Name, Age, Boom}
-use Rattle.gql_tool.specs.declared.document.Leaf.{Leaf}
-use Rattle.gql_tool.specs.declared.document.Deferred.{Deferred}
-use Rattle.gql_tool.specs.declared.document.HeroDocument.{HeroDocument}
+use Rattle.gql_tool.specs.declared.shape.LeafName.{LeafName}
+use Rattle.gql_tool.specs.declared.shape.LeafName.TheVariants.{Id, Name, Age, Boom}
+use Rattle.gql_tool.specs.declared.shape.Leaf.{Leaf}
+use Rattle.gql_tool.specs.declared.shape.Deferred.{Deferred}
+use Rattle.gql_tool.specs.declared.shape.HeroDocument.{HeroDocument}
 use Rattle.gql_tool.specs.declared.tables.LeafCell.{LeafCell}
 use Rattle.gql_tool.specs.declared.tables.LeafCell.TheVariants.{Null, Int, Text, Error}
 use Rattle.gql_tool.specs.declared.tables.Person.{Person}
 use Rattle.gql_tool.specs.declared.tables.HeroTables.{HeroTables}
 use Rattle.gql_tool.specs.declared.tables.HeroCell.{HeroCell}
 use Rattle.gql_tool.specs.declared.tables.HeroCell.TheVariants as hero_cells
-use Rattle.gql_tool.specs.Document.{times, deferred_leaves_of}
-use Rattle.gql_tool.specs.Local.{built, regions}
+use Rattle.gql_tool.specs.Shape.{times, deferred_leaves_of}
+use Rattle.gql_tool.specs.declared.request.Request.TheVariants.{Built}
+use Rattle.gql_tool.specs.Local.{Judged, regions}
 use Rattle.gql_tool.specs.Operation.{name_of, nodes_of}
 use Rattle.gql_tool.specs.Service.{service, query}
 use Rattle.gql_tool.specs.Hero.{hero_path, is_required, cell_under, cell_part, leaf_path, leaf_part, leaf_members, leaf_faults, some_bubble, hero_object, single, announcing, completing_by, standing_payloads, person_payloads_by, EachOnce, RefStands}
@@ -54,8 +55,8 @@ use Rattle.gql_tool.proofs.HeroForests.{person_at}
 use Rattle.gql_tool.proofs.HeroOnce.{apart-members}
 use Rattle.gql_tool.proofs.HeroPayloads.{payloads-person, payloads-null, payloads-error}
 use Rattle.gql_tool.proofs.HeroSound.{hero_payloads_make_sense, hero_payloads_are_shallow}
-use Rattle.gql_tool.proofs.Reading.{built-read, built-once, built-stands}
-use Rattle.gql_tool.proofs.Spots.{FitsSpot, FitsDocument, document_in-fits, built-placed}
+use Rattle.gql_tool.proofs.Reading.{judged-read, judged-once, judged-stands}
+use Rattle.gql_tool.proofs.Spots.{FitsSpot, FitsDocument, read-fits, judged-placed}
 use Rattle.gql_tool.proofs.TableTexts.{CellFits, PersonFits, HeroFits, TablesFit, tables_in-fit}
 
 -- ---- lists
@@ -361,11 +362,11 @@ each_read_back [] sound deep written = tt
 each_read_back (p ∷ ps) sound deep written = (text_back p sound.0 written.0.typed (IsUtf8-compact_text (payload_data p) written.0.utf8) deep.0, each_read_back ps sound.1 deep.1 written.1)
 
 -- each payload of a request that is built is read back from its text
-pub hero_payloads_are_read_back : (vars schema tables document : List ℕ) (t : HeroTables) (d : HeroDocument) → built vars schema tables document ≡ Some (t, d) → Each IsReadBack (first_payloads (regions t d))
+pub hero_payloads_are_read_back : (vars schema tables document : List ℕ) (t : HeroTables) (d : HeroDocument) → Judged vars schema tables document (Built t d) → Each IsReadBack (first_payloads (regions t d))
 hero_payloads_are_read_back vars schema tables document t d is =
-    let read = built-read vars schema tables document t d is in
-    let once = built-once vars schema tables document t d is in
-    let stands = built-stands vars schema tables document t d is in
-    let placed = built-placed vars schema tables document t d is in
+    let read = judged-read vars schema tables document t d is in
+    let once = judged-once vars schema tables document t d is in
+    let stands = judged-stands vars schema tables document t d is in
+    let placed = judged-placed vars schema tables document t d is in
     each_read_back (first_payloads (regions t d)) (hero_payloads_make_sense t d once stands placed) (hero_payloads_are_shallow t d once stands)
-    (hero_payloads_can_be_written t d once stands (tables_in-fit tables t read.0) (document_in-fits document d read.1))
+    (hero_payloads_can_be_written t d once stands (tables_in-fit tables t read.tables) (read-fits document read.it d read.utf8 read.within read.document read.hero))

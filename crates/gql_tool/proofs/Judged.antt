@@ -3,10 +3,10 @@ use Rattle.std.proofs.Common.{◌≡◌, ℕ, ◌≤◌, List, length, Option, N
 use Rattle.gql_io.specs.Files.{Files}
 use Rattle.gql_tool.specs.declared.status.Status.{Status}
 use Rattle.gql_tool.specs.declared.status.Status.TheVariants.{Done, Refused, ReadFault, WriteFault, NoMemory}
-use Rattle.gql_tool.specs.declared.document.HeroDocument.{HeroDocument}
-use Rattle.gql_tool.specs.declared.tables.HeroTables.{HeroTables}
+use Rattle.gql_tool.specs.declared.request.Request.{Request}
+use Rattle.gql_tool.specs.declared.request.Request.TheVariants.{NoText, NoDocument, NotBuilt, Built}
 use Rattle.gql_tool.specs.Outcome.{Outcome, Ways, AfterFile, file_limit}
-use Rattle.gql_tool.specs.Local.{built, Answered, LocalWays}
+use Rattle.gql_tool.specs.Local.{Answered, RequestWays, LocalWays}
 use Rattle.gql_tool.specs.Meets.{Meets, MeetsTold, IsJudged, HasFiles, Whole}
 
 -- the file leads on
@@ -18,10 +18,12 @@ leads_on file name bytes next o is within after = here (subst (λ (f : Option (L
     here (inl over) = absurd (omega (arith, within, over.0))
     here (inr right) = right.1
 
-answered : (request : Option (HeroTables × HeroDocument)) (o : Outcome) → Answered request o → IsJudged o.status
-answered None o is = subst (λ (p : Outcome). IsJudged p.status) (sym is) tt
-answered (Some x) o (inl delivered) = subst (λ (p : Outcome). IsJudged p.status) (sym delivered.is) tt
-answered (Some x) o (inr cut) = subst (λ (p : Outcome). IsJudged p.status) (sym cut.is) tt
+answered : (request : Request) (o : Outcome) → Answered request o → IsJudged o.status
+answered NoText o is = subst (λ (p : Outcome). IsJudged p.status) (sym is) tt
+answered (NoDocument refusal) o is = subst (λ (p : Outcome). IsJudged p.status) (sym is) tt
+answered NotBuilt o is = subst (λ (p : Outcome). IsJudged p.status) (sym is) tt
+answered (Built t d) o (inl delivered) = subst (λ (p : Outcome). IsJudged p.status) (sym delivered.is) tt
+answered (Built t d) o (inr cut) = subst (λ (p : Outcome). IsJudged p.status) (sym cut.is) tt
 
 -- the right outcomes are those of the request
 right : (files : Files) (schema tables document vars : List ℕ) (o : Outcome) → HasFiles (Some files) schema tables document → LocalWays schema tables document vars files o
@@ -30,10 +32,10 @@ right files schema tables document vars o has ways =
     let s = has.0 in
     let t = has.1 in
     let d = has.2 in
-    let at_schema = leads_on (files schema) schema s.0 (λ s. AfterFile (files tables) tables (λ t. AfterFile (files document) document (λ d. Answered (built vars s t d)))) o s.1 s.2 ways in
-    let at_tables = leads_on (files tables) tables t.0 (λ t. AfterFile (files document) document (λ d. Answered (built vars s.0 t d))) o t.1 t.2 at_schema in
-    let at_document = leads_on (files document) document d.0 (λ d. Answered (built vars s.0 t.0 d)) o d.1 d.2 at_tables in
-    answered (built vars s.0 t.0 d.0) o at_document
+    let at_schema = leads_on (files schema) schema s.0 (λ s. AfterFile (files tables) tables (λ t. AfterFile (files document) document (λ d. RequestWays vars s t d))) o s.1 s.2 ways in
+    let at_tables = leads_on (files tables) tables t.0 (λ t. AfterFile (files document) document (λ d. RequestWays vars s.0 t d)) o t.1 t.2 at_schema in
+    let at_document = leads_on (files document) document d.0 (λ d. RequestWays vars s.0 t.0 d) o d.1 d.2 at_tables in
+    answered at_document.0 o at_document.2
 
 pub judged : (told : Option Files) (schema tables document vars : List ℕ) (status : Status) (a b : Option (List ℕ)) → HasFiles told schema tables document
     → MeetsTold told (LocalWays schema tables document vars) status a b → ¬ (status ≡ ReadFault) → ¬ (status ≡ WriteFault) → IsJudged status

@@ -6,6 +6,7 @@ mod Digits
 mod Executed
 mod Executes
 mod Files
+mod Gives
 mod HandedAll
 mod HandedOut
 mod HeroDelivery
@@ -28,16 +29,16 @@ mod HeroWritten
 mod Ids
 mod Judged
 mod Kept
-mod Labels
 mod Numbers
 mod Pieces
+mod Places
 mod Reading
 mod Replays
+mod Requests
 mod Rows
 mod Sent
 mod ServedBodies
 pub mod Spots
 mod TableTexts
 mod Texts
-mod Tokens
 mod Understood

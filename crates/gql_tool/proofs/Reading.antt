@@ -1,21 +1,24 @@
 -- What documents and tables that were read keep.
-use Rattle.std.proofs.Common.{◌≡◌, refl, sym, ap, ℕ, suc, ◌+◌, ◌<◌, ◌≤◌, Bool, true, false, cond, List, [], ◌∷◌, length, Option, Some, None, Result, Ok, Err, subst, arith}
-use Rattle.std.specs.Prelude.{◌&&◌, nat_le, option_map, option_and_then, bytes_eq, codes, IfOk, IfSome}
+use Rattle.std.proofs.Common.{◌≡◌, refl, ap, ℕ, suc, ◌+◌, ◌<◌, ◌≤◌, Bool, true, false, cond, List, [], ◌∷◌, length, Option, Some, None, IsUtf8, subst, arith}
+use Rattle.std.specs.Prelude.{◌&&◌, nat_le, option_map, option_and_then, bytes_eq, codes}
 use Rattle.std.specs.Option.{option_or}
 use Rattle.std.proofs.lemmas.Bool.Decides.{nat_tests}
 use Rattle.std.proofs.lemmas.List.{length-map}
 use Rattle.serde_json.specs.Data.{Data}
 use Rattle.serde_json.specs.Find.{get}
-use Rattle.gql_tool.specs.declared.document.LeafName.{LeafName}
-use Rattle.gql_tool.specs.declared.document.LeafName.TheVariants.{Id, Name, Age, Boom}
-use Rattle.gql_tool.specs.declared.document.HeroDocument.{HeroDocument}
+use Rattle.gql_doc.specs.Answer.{Is, most_bytes}
+use Rattle.gql_model.specs.declared.syntax.Document.{Document}
+use Rattle.gql_tool.specs.declared.request.Request.TheVariants.{Built}
+use Rattle.gql_tool.specs.declared.shape.LeafName.{LeafName}
+use Rattle.gql_tool.specs.declared.shape.LeafName.TheVariants.{Id, Name, Age, Boom}
+use Rattle.gql_tool.specs.declared.shape.HeroDocument.{HeroDocument}
 use Rattle.gql_tool.specs.declared.tables.Person.{Person}
 use Rattle.gql_tool.specs.declared.tables.HeroCell.{HeroCell}
 use Rattle.gql_tool.specs.declared.tables.HeroCell.TheVariants as hero
 use Rattle.gql_tool.specs.declared.tables.HeroTables.{HeroTables}
-use Rattle.gql_tool.specs.Document.{document_in, document_of, tokens_of, once_each, stands_once, times, deferred_leaves_of, most_bytes}
+use Rattle.gql_tool.specs.Shape.{document_of, once_each, stands_once, times, deferred_leaves_of, hero_of}
 use Rattle.gql_tool.specs.HeroTables.{tables_in, tables_held, tables_by, hero_among, hero_cell, hero_by, ref_in, number_of, row_ids, error_in, is_null, only_text, fits_together, json_in, text_at, list_at, persons_in, only_row}
-use Rattle.gql_tool.specs.Local.{schema_text, no_variables, built}
+use Rattle.gql_tool.specs.Local.{schema_text, no_variables, Judged}
 use Rattle.gql_tool.specs.Hero.{EachOnce, RefStands}
 
 -- ---- documents
@@ -51,12 +54,9 @@ once_each-keeps x d is =
     let same : x ≡ d = cc in
     subst EachOnce same (λ name. at_most_one (times name x.leaves + times name (deferred_leaves_of x.deferred)) (once_by x p.0 name))
 
--- a document that was read has no leaf twice
-pub document_in-once : (bytes : List ℕ) (d : HeroDocument) → document_in bytes ≡ Some d → EachOnce d
-document_in-once bytes d is =
-    let p = some_if (nat_le (length bytes) most_bytes) (option_and_then once_each (option_and_then document_of (tokens_of bytes))) d is in
-    let q = some_then once_each (option_and_then document_of (tokens_of bytes)) d p.1 in
-    once_each-keeps q.0 d q.2
+-- no leaf stands twice in the query that a document is
+pub hero_of-once : (it : Document) (d : HeroDocument) → hero_of it ≡ Some d → EachOnce d
+hero_of-once it d is = (let q = some_then once_each (document_of it.definitions) d is in once_each-keeps q.0 d q.2)
 
 -- ---- tables
 
@@ -129,24 +129,22 @@ built_by true (Some x) (Some y) t d is =
     (ap (λ (z : Request). Some z.0) same, ap (λ (z : Request). Some z.1) same)
 built_by false ts ds t d is = absurd (cc)
 
--- a request that is built was read
-pub built-read : (vars schema tables document : List ℕ) (t : HeroTables) (d : HeroDocument) → built vars schema tables document ≡ Some (t, d) → (tables_in tables ≡ Some t) × (document_in document ≡ Some d)
-built-read vars schema tables document = built_by (bytes_eq vars no_variables && bytes_eq schema schema_text) (tables_in tables) (document_in document)
+-- how a request that is built was read
+pub record WasRead (rows text : List ℕ) (t : HeroTables) (d : HeroDocument) : Type 0 where
+  pub tables : tables_in rows ≡ Some t
+  pub utf8 : IsUtf8 text
+  pub within : length text ≤ most_bytes
+  pub it : Document
+  pub document : Is text it
+  pub hero : hero_of it ≡ Some d
 
-pub built-once : (vars schema tables document : List ℕ) (t : HeroTables) (d : HeroDocument) → built vars schema tables document ≡ Some (t, d) → EachOnce d
-built-once vars schema tables document t d is = document_in-once document d (built-read vars schema tables document t d is).1
+pub judged-read : (vars schema tables document : List ℕ) (t : HeroTables) (d : HeroDocument) → Judged vars schema tables document (Built t d) → WasRead tables document t d
+judged-read vars schema tables document t d (utf8, it, (within, read), is) =
+    let parts = built_by (bytes_eq vars no_variables && bytes_eq schema schema_text) (tables_in tables) (hero_of it) t d is in
+    record { tables = parts.0; utf8 = utf8; within = within; it = it; document = read; hero = parts.1 }
 
-pub built-stands : (vars schema tables document : List ℕ) (t : HeroTables) (d : HeroDocument) → built vars schema tables document ≡ Some (t, d) → RefStands t
-built-stands vars schema tables document t d is = tables_in-stands tables t (built-read vars schema tables document t d is).0
+pub judged-once : (vars schema tables document : List ℕ) (t : HeroTables) (d : HeroDocument) → Judged vars schema tables document (Built t d) → EachOnce d
+judged-once vars schema tables document t d is = (let read = judged-read vars schema tables document t d is in hero_of-once read.it d read.hero)
 
--- ---- as answers say them
-
-pub document-once : {E : Type 0} (bytes : List ℕ) (r : Result (Option HeroDocument) E) → IfOk r (λ d. d ≡ document_in bytes) → IfOk r (λ d. IfSome d EachOnce)
-document-once bytes (Err e) h = tt
-document-once bytes (Ok None) h = tt
-document-once bytes (Ok (Some d)) h = document_in-once bytes d (sym h)
-
-pub tables-stand : {E : Type 0} (bytes : List ℕ) (r : Result (Option HeroTables) E) → IfOk r (λ t. t ≡ tables_in bytes) → IfOk r (λ t. IfSome t RefStands)
-tables-stand bytes (Err e) h = tt
-tables-stand bytes (Ok None) h = tt
-tables-stand bytes (Ok (Some t)) h = tables_in-stands bytes t (sym h)
+pub judged-stands : (vars schema tables document : List ℕ) (t : HeroTables) (d : HeroDocument) → Judged vars schema tables document (Built t d) → RefStands t
+judged-stands vars schema tables document t d is = tables_in-stands tables t (judged-read vars schema tables document t d is).tables

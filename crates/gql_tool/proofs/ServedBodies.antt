@@ -11,7 +11,7 @@ use Rattle.gql_merge.specs.declared.state.State.{State}
 use Rattle.gql_merge.specs.Merging.{HasMerged}
 use Rattle.gql_tool.specs.declared.status.Status.{Status}
 use Rattle.gql_tool.specs.declared.status.Status.TheVariants.{Done, ReadFault, WriteFault, NoMemory}
-use Rattle.gql_tool.specs.declared.document.HeroDocument.{HeroDocument}
+use Rattle.gql_tool.specs.declared.shape.HeroDocument.{HeroDocument}
 use Rattle.gql_tool.specs.declared.tables.HeroTables.{HeroTables}
 use Rattle.gql_tool.specs.Outcome.{Outcome}
 use Rattle.gql_tool.specs.Client.{Merges, Refuses}
@@ -30,8 +30,8 @@ use Rattle.gql_tool.proofs.Executed.{IsReadable, all_readable, merges_all, refus
 use Rattle.gql_tool.proofs.HeroForests.{hero_is_lone}
 use Rattle.gql_tool.proofs.HeroSound.{hero_payloads_make_sense, hero_payloads_are_shallow}
 use Rattle.gql_tool.proofs.HeroWritten.{IsReadBack, hero_payloads_are_read_back}
-use Rattle.gql_tool.proofs.Reading.{built-once, built-stands}
-use Rattle.gql_tool.proofs.Spots.{built-placed}
+use Rattle.gql_tool.proofs.Reading.{judged-once, judged-stands}
+use Rattle.gql_tool.proofs.Spots.{judged-placed}
 
 all_written : (ps : List Payload) → Each IsReadBack ps → Each IsWritten ps
 all_written [] h = tt
@@ -48,13 +48,13 @@ module _ (t : HeroTables) (d : HeroDocument) (boundary input : List ℕ) (h : Is
   later = later_payloads 0 (group_regions (branches (regions t d)))
 
   once : EachOnce d
-  once = built-once h.vars h.schema h.tables h.document t d h.request
+  once = judged-once h.vars h.schema h.tables h.document t d h.request
 
   stands : RefStands t
-  stands = built-stands h.vars h.schema h.tables h.document t d h.request
+  stands = judged-stands h.vars h.schema h.tables h.document t d h.request
 
   placed : IsPlaced d
-  placed = built-placed h.vars h.schema h.tables h.document t d h.request
+  placed = judged-placed h.vars h.schema h.tables h.document t d h.request
 
   written : Each IsReadBack payloads
   written = hero_payloads_are_read_back h.vars h.schema h.tables h.document t d h.request

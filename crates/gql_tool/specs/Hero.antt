@@ -11,17 +11,19 @@ use Rattle.gql_tree.specs.declared.Value.TheVariants as v
 use Rattle.gql_tree.specs.declared.Payload.{Payload}
 use Rattle.gql_tree.specs.declared.Content.TheVariants.{Fields}
 use Rattle.gql_model.specs.Complete.{Part, bubble, nothing, just, fault_at, null_message, value_in, is_bubble}
-use Rattle.gql_tool.specs.declared.document.LeafName.{LeafName}
-use Rattle.gql_tool.specs.declared.document.LeafName.TheVariants.{Id, Name, Age, Boom}
-use Rattle.gql_tool.specs.declared.document.Leaf.{Leaf}
+use Rattle.gql_tool.specs.declared.shape.LeafName.{LeafName}
+use Rattle.gql_tool.specs.declared.shape.LeafName.TheVariants.{Id, Name, Age, Boom}
+use Rattle.gql_tool.specs.declared.shape.Leaf.{Leaf}
 use Rattle.gql_tool.specs.declared.tables.LeafCell.{LeafCell}
 use Rattle.gql_tool.specs.declared.tables.LeafCell.TheVariants.{Null, Int, Text, Error}
 use Rattle.gql_tool.specs.declared.tables.Person.{Person}
 use Rattle.gql_tool.specs.declared.tables.HeroTables.{HeroTables}
 use Rattle.gql_tool.specs.declared.tables.HeroCell.TheVariants.{Ref}
-use Rattle.gql_tool.specs.declared.document.HeroDocument.{HeroDocument}
-use Rattle.gql_tool.specs.declared.document.Deferred.{Deferred}
-use Rattle.gql_tool.specs.Document.{times, deferred_leaves_of}
+use Rattle.gql_tool.specs.declared.shape.HeroDocument.{HeroDocument}
+use Rattle.gql_tool.specs.declared.shape.Deferred.{Deferred}
+use Rattle.gql_tool.specs.declared.request.Request.{Request}
+use Rattle.gql_tool.specs.declared.request.Request.TheVariants.{NotBuilt, Built}
+use Rattle.gql_tool.specs.Shape.{times, deferred_leaves_of}
 use Rattle.gql_tool.specs.Operation.{name_of}
 
 abbrev pub hero_path : List Key
@@ -152,3 +154,15 @@ person_payloads p d = person_payloads_by (some_bubble p d.leaves) p d.leaves d.d
 -- a hero that is a person is one of the tables
 abbrev pub RefStands : HeroTables → Type 0
 RefStands t = (n : ℕ) → t.hero ≡ Ref n → n < length t.persons
+
+-- ---- requests
+
+-- whether a request is executed
+abbrev pub answer_of : Option (HeroTables × HeroDocument) → Request
+answer_of None = NotBuilt
+answer_of (Some x) = Built x.0 x.1
+
+-- what execution asks of a request that is built
+abbrev pub CanRun : Request → Type 0
+CanRun (Built t d) = RefStands t × (EachOnce d × IsPlaced d)
+CanRun _ = Unit {0}

@@ -3,7 +3,7 @@ pub mod Words
 pub mod Outcome
 pub mod Meets
 pub mod Local
-pub mod Document
+pub mod Shape
 pub mod Operation
 pub mod HeroTables
 pub mod WorkedTables

@@ -4,12 +4,13 @@ use Rattle.gql_multipart.specs.Framed.{pieces_of}
 use Rattle.gql_io.specs.Files.{Files}
 use Rattle.gql_tool.specs.declared.status.Status.{Status}
 use Rattle.gql_tool.specs.declared.status.Status.TheVariants.{Done, WriteFault, NoMemory, StreamRefused}
-use Rattle.gql_tool.specs.declared.document.HeroDocument.{HeroDocument}
+use Rattle.gql_tool.specs.declared.shape.HeroDocument.{HeroDocument}
 use Rattle.gql_tool.specs.declared.tables.HeroTables.{HeroTables}
 use Rattle.gql_tool.specs.declared.client.Client.{Client}
 use Rattle.gql_tool.specs.Client.{counted}
 use Rattle.gql_tool.specs.Heard.{Stands, nothing_heard, IsRefused}
-use Rattle.gql_tool.specs.Local.{built, body, texts}
+use Rattle.gql_tool.specs.declared.request.Request.TheVariants.{Built}
+use Rattle.gql_tool.specs.Local.{Judged, body, texts}
 use Rattle.gql_tool.specs.Words.{Form, LocalForm}
 
 -- the boundary of the bodies that are written
@@ -36,7 +37,7 @@ cuts_of cut texts = sum_by (cuts_in cut) (pieces_of true texts)
 -- the request that the files are, as far as the shelf tells
 abbrev pub Asks : Option Files → (schema tables document vars : List ℕ) → HeroTables → HeroDocument → Type 0
 Asks None schema tables document vars t d = Unit {0}
-Asks (Some files) schema tables document vars t d = (s b c : List ℕ) × (files schema ≡ Some s) × (files tables ≡ Some b) × (files document ≡ Some c) × (built vars s b c ≡ Some (t, d))
+Asks (Some files) schema tables document vars t d = (s b c : List ℕ) × (files schema ≡ Some s) × (files tables ≡ Some b) × (files document ≡ Some c) × Judged vars s b c (Built t d)
 
 -- it was fed the body in cuts, and took all of it
 pub record TookBody (t : HeroTables) (d : HeroDocument) (cut : ℕ) (c : Client) : Type 0 where

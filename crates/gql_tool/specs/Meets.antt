@@ -9,7 +9,7 @@ use Rattle.gql_tool.specs.Outcome.{Outcome, Ways, names, file_limit}
 use Rattle.gql_tool.specs.Local.{LocalWays}
 use Rattle.gql_tool.specs.Replay.{ReplayWays, IsReplayed}
 use Rattle.gql_tool.specs.Served.{IsServed}
-use Rattle.gql_tool.specs.declared.document.HeroDocument.{HeroDocument}
+use Rattle.gql_tool.specs.declared.shape.HeroDocument.{HeroDocument}
 use Rattle.gql_tool.specs.declared.tables.HeroTables.{HeroTables}
 use Rattle.gql_tool.specs.Words.{Form, LocalForm, ReplayForm}
 

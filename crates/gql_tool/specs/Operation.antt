@@ -3,11 +3,11 @@ use Rattle.std.specs.Prelude.{ℕ, ◌+◌, List, [], ◌∷◌, ◌++◌, map, 
 use Rattle.std.specs.List.{range_with_len}
 use Rattle.gql_model.specs.declared.operation.Node.{Node}
 use Rattle.gql_model.specs.declared.operation.NodeKind.TheVariants.{Field, Fragment}
-use Rattle.gql_tool.specs.declared.document.LeafName.{LeafName}
-use Rattle.gql_tool.specs.declared.document.LeafName.TheVariants.{Id, Name, Age, Boom}
-use Rattle.gql_tool.specs.declared.document.Leaf.{Leaf}
-use Rattle.gql_tool.specs.declared.document.Deferred.{Deferred}
-use Rattle.gql_tool.specs.declared.document.HeroDocument.{HeroDocument}
+use Rattle.gql_tool.specs.declared.shape.LeafName.{LeafName}
+use Rattle.gql_tool.specs.declared.shape.LeafName.TheVariants.{Id, Name, Age, Boom}
+use Rattle.gql_tool.specs.declared.shape.Leaf.{Leaf}
+use Rattle.gql_tool.specs.declared.shape.Deferred.{Deferred}
+use Rattle.gql_tool.specs.declared.shape.HeroDocument.{HeroDocument}
 
 abbrev pub name_of : LeafName → List ℕ
 name_of Id = codes "id"

@@ -2,10 +2,11 @@
 use Rattle.std.specs.Prelude.{◌≡◌, ℕ, ◌≤◌, List, length, Option, Some, None}
 use Rattle.std.specs.List.{AllByRecursion as Each}
 use Rattle.gql_tool.specs.declared.status.Status.TheVariants.{Done}
-use Rattle.gql_tool.specs.declared.document.HeroDocument.{HeroDocument}
+use Rattle.gql_tool.specs.declared.shape.HeroDocument.{HeroDocument}
 use Rattle.gql_tool.specs.declared.tables.HeroTables.{HeroTables}
 use Rattle.gql_tool.specs.Outcome.{Ways}
-use Rattle.gql_tool.specs.Local.{built, regions, texts, body, Fits, IsMergedLine}
+use Rattle.gql_tool.specs.declared.request.Request.TheVariants.{Built}
+use Rattle.gql_tool.specs.Local.{Judged, regions, texts, body, Fits, IsMergedLine}
 use Rattle.gql_tool.specs.LocalClient.{dash}
 use Rattle.gql_tool.specs.Replay.{budget}
 
@@ -15,7 +16,7 @@ pub record IsBodyOf (t : HeroTables) (d : HeroDocument) (boundary input : List �
   pub schema : List ℕ
   pub tables : List ℕ
   pub document : List ℕ
-  pub request : built vars schema tables document ≡ Some (t, d)
+  pub request : Judged vars schema tables document (Built t d)
   pub fit : Each Fits (texts t d)
   pub within : length input ≤ budget
   pub is_dash : boundary ≡ dash

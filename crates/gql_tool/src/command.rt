@@ -10,7 +10,7 @@ ghost use Rattle.gql_tool.specs.Local.{LocalWays};
 ghost use Rattle.gql_tool.specs.LocalClient.{IsNew, Asks, ClientEnds, ClientOf};
 ghost use Rattle.gql_tool.specs.Meets.{Meets, MeetsTold, Answers, IsAnswer, IsStop, IsJudged, IsComplete, IsEnd, ReadsFiles, ReadsInput, HasFiles, Ready, Serves, Finds, StopsAt, ended};
 ghost use Rattle.gql_tool.specs.Served.{MergedWay};
-ghost use Rattle.gql_tool.specs.declared.document.HeroDocument.{HeroDocument as DocumentOf};
+ghost use Rattle.gql_tool.specs.declared.shape.HeroDocument.{HeroDocument as DocumentOf};
 ghost use Rattle.gql_tool.specs.declared.tables.HeroTables.{HeroTables as TablesOf};
 
 use crate::Status;

@@ -7,7 +7,7 @@ ghost use Rattle.gql_tool.specs.Heard.{Stands, nothing_heard};
 ghost use Rattle.gql_tool.specs.Hearing.{EndsAt, heard_of, hearing_of};
 ghost use Rattle.gql_tool.specs.Meets.{Meets, MeetsTold};
 ghost use Rattle.gql_tool.specs.Served.{IsServed, MergedWay};
-ghost use Rattle.gql_tool.specs.declared.document.HeroDocument.{HeroDocument as DocumentOf};
+ghost use Rattle.gql_tool.specs.declared.shape.HeroDocument.{HeroDocument as DocumentOf};
 ghost use Rattle.gql_tool.specs.declared.tables.HeroTables.{HeroTables as TablesOf};
 ghost use Rattle.gql_tool.specs.Replay.{budget, HeardWays, ReplayWays, IsReplayed};
 

@@ -7,9 +7,10 @@ ghost use Rattle.gql_tree.specs.FirstPayloads.{value_of};
 ghost use Rattle.gql_tree.specs.Same.{SameFlat};
 ghost use Rattle.gql_tree.specs.Merged.{IsMerged};
 ghost use Rattle.gql_model.specs.Plain.{plain, kept};
-ghost use Rattle.gql_tool.specs.declared.document.HeroDocument.{HeroDocument};
+ghost use Rattle.gql_tool.specs.declared.shape.HeroDocument.{HeroDocument};
 ghost use Rattle.gql_tool.specs.declared.tables.HeroTables.{HeroTables};
-ghost use Rattle.gql_tool.specs.Local.{built, regions};
+ghost use Rattle.gql_tool.specs.declared.request.Request.TheVariants.{Built};
+ghost use Rattle.gql_tool.specs.Local.{Judged, regions};
 ghost use Rattle.gql_tool.specs.Operation.{nodes_of};
 ghost use Rattle.gql_tool.specs.Service.{service, query};
 
@@ -18,11 +19,11 @@ ghost use Rattle.gql_tool.specs.Service.{service, query};
 /// stand in it.
 pub fn a_response_without_failures_is_plain()
     ensures data { (vars schema tables document : List ℕ) (t : HeroTables) (d : HeroDocument) (value : Value) (faults : List Fault)
-        → built vars schema tables document ≡ Some (t, d)
+        → Judged vars schema tables document (Built t d)
         → IsMerged (regions t d) value faults []
         → SameFlat value (value_of (plain (service t) (nodes_of d) query).outcome) }
     ensures errors { (vars schema tables document : List ℕ) (t : HeroTables) (d : HeroDocument) (value : Value) (faults : List Fault)
-        → built vars schema tables document ≡ Some (t, d)
+        → Judged vars schema tables document (Built t d)
         → IsMerged (regions t d) value faults []
         → (let r = plain (service t) (nodes_of d) query in kept value faults ≡ kept (value_of r.outcome) r.faults) }
 {}

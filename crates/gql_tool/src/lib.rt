@@ -9,8 +9,8 @@
 //! writes what the client merged.
 //!
 //! What is still built for one shape of request alone stands in modules that move out later:
-//! `document` reads the documents (`specs/Document.antt`, `specs/Operation.antt`), `tables` the tables
-//! (`specs/HeroTables.antt`), `region` runs leaves, `delivery` makes payloads, and `deliver` hands them
+//! `shape` says which documents are executed (`specs/Shape.antt`, `specs/Operation.antt`), `tables` reads the
+//! tables (`specs/HeroTables.antt`), `region` runs leaves, `delivery` makes payloads, and `deliver` hands them
 //! out one by one. That they are the payloads of the general definitions of execution is proved in
 //! `proofs/HeroPayloads.antt`, for the contract of `deliver`.
 #![tactic(auto)]
@@ -19,7 +19,6 @@ mod client;
 mod command;
 mod deliver;
 mod delivery;
-mod document;
 mod handing;
 mod hearing;
 mod laws;
@@ -27,6 +26,7 @@ mod lines;
 mod local_words;
 mod region;
 mod request;
+mod shape;
 mod status;
 mod tables;
 #[cfg(test)]
@@ -35,7 +35,6 @@ mod words;
 
 pub use client::{Client, ClientRefusal};
 pub use command::{local, tool};
-pub use document::worked_documents;
 pub use hearing::replay;
 pub use laws::a_response_without_failures_is_plain;
 pub use local_words::LocalWords;

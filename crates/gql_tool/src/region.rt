@@ -2,12 +2,12 @@
 
 ghost use Rattle.std.specs.Prelude.{◌≡◌, ◌≤◌, ◌||◌, ◌++◌, [], ◌∷◌, true, false, is_none, IfOk, OnOk, Some, None};
 ghost use Rattle.gql_tree.specs.Names.{has_name};
-ghost use Rattle.gql_tool.specs.Document.{times};
+ghost use Rattle.gql_tool.specs.Shape.{times};
 ghost use Rattle.gql_model.specs.Complete.{fault_at, null_message};
 ghost use Rattle.gql_tool.specs.Operation.{name_of};
 ghost use Rattle.gql_tool.specs.Hero.{hero_path, leaf_path, is_required as is_required_spec, cell_under, cell_part, null_faults, some_bubble, leaf_members, leaf_faults, fault_list, value_or_null, IsPart};
 
-use crate::document::{Leaf, LeafName};
+use crate::shape::{Leaf, LeafName};
 use crate::tables::{LeafCell, Person};
 use gql_tree::{Fault, Fields, Key, Listed, NoMemory, Path, Spot, Text, TryCopy, Value};
 use std::alloc::Global;

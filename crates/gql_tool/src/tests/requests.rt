@@ -9,6 +9,12 @@ use std::test::Fail;
 const NOT_BUILT: &[u8] =
     b"---\r\nContent-Type: application/json; charset=utf-8\r\n\r\n{\"errors\":[{\"message\":\"NotBuilt\"}]}\r\n-----\r\n";
 
+const NOT_UTF8: &[u8] =
+    b"---\r\nContent-Type: application/json; charset=utf-8\r\n\r\n{\"errors\":[{\"message\":\"Document is not UTF-8\"}]}\r\n-----\r\n";
+
+const TOO_LONG: &[u8] =
+    b"---\r\nContent-Type: application/json; charset=utf-8\r\n\r\n{\"errors\":[{\"message\":\"Syntax: TooLong\"}]}\r\n-----\r\n";
+
 const TABLES: &[u8] =
     b"{\"Query\":[{\"@id\":\"q\",\"hero\":{\"ref\":\"1\"}}],\"Person\":[{\"@id\":\"1\",\"id\":\"1\",\"name\":\"Luke\",\"boom\":{\"error\":\"bang\"}}]}";
 
@@ -84,12 +90,116 @@ fn what_each_document_is_answered(rt: HostRuntime) -> Result<(), Fail> {
             0,
             b"---\r\nContent-Type: application/json; charset=utf-8\r\n\r\n{\"data\":{\"hero\":{\"id\":\"1\"}},\"hasNext\":true,\"pending\":[{\"id\":\"0\",\"path\":[\"hero\"]}]}\r\n---\r\nContent-Type: application/json; charset=utf-8\r\n\r\n{\"completed\":[{\"errors\":[{\"locations\":[{\"column\":26,\"line\":1}],\"message\":\"bang\",\"path\":[\"hero\",\"boom\"]}],\"id\":\"0\"}],\"hasNext\":false}\r\n-----\r\nmerged {\"data\":{\"hero\":{\"id\":\"1\"}},\"errors\":[],\"failures\":[{\"errors\":[{\"locations\":[{\"column\":26,\"line\":1}],\"message\":\"bang\",\"path\":[\"hero\",\"boom\"]}],\"path\":[\"hero\"]}]}\n",
         ),
-        (b"{ crew { id } }", 1, NOT_BUILT),
+        (
+            b"query\n{\thero, { boom } }",
+            0,
+            b"---\r\nContent-Type: application/json; charset=utf-8\r\n\r\n{\"data\":{\"hero\":null},\"errors\":[{\"locations\":[{\"column\":11,\"line\":2}],\"message\":\"bang\",\"path\":[\"hero\",\"boom\"]}]}\r\n-----\r\nmerged {\"data\":{\"hero\":null},\"errors\":[{\"locations\":[{\"column\":11,\"line\":2}],\"message\":\"bang\",\"path\":[\"hero\",\"boom\"]}],\"failures\":[]}\n",
+        ),
+        (
+            b"{ hero { id ... @defer(label: \"\\\"\\u00e9\") { age } } }",
+            0,
+            b"---\r\nContent-Type: application/json; charset=utf-8\r\n\r\n{\"data\":{\"hero\":{\"id\":\"1\"}},\"hasNext\":true,\"pending\":[{\"id\":\"0\",\"label\":\"\\\"\xc3\xa9\",\"path\":[\"hero\"]}]}\r\n---\r\nContent-Type: application/json; charset=utf-8\r\n\r\n{\"completed\":[{\"id\":\"0\"}],\"hasNext\":false,\"incremental\":[{\"data\":{\"age\":null},\"id\":\"0\"}]}\r\n-----\r\nmerged {\"data\":{\"hero\":{\"age\":null,\"id\":\"1\"}},\"errors\":[],\"failures\":[]}\n",
+        ),
+        (b"\xff", 1, NOT_UTF8),
     ] {
         let end = answered(alloc, "local s t d - 0 7", document, NO_FAULT)?;
         assert_eq!(rt; end.status.number(), status);
         assert_eq!(rt; end.output.sent(), written);
     }
+    Ok(())
+}
+
+#[test]
+fn which_documents_are_not_built(rt: HostRuntime) -> Result<(), Fail> {
+    let alloc = rt.alloc();
+    for document in [
+        "{ hero }",
+        "{ crew { id } }",
+        "{ hero { idname } }",
+        "{ hero { id id } }",
+        "{ hero { friends { id } } }",
+        "{ hero { me: id } }",
+        "{ hero { id(x: 1) } }",
+        "{ hero { id @skip(if: true) } }",
+        "{ person: hero { id } }",
+        "{ hero { id } hero { name } }",
+        "query Q { hero { id } }",
+        "query ($x: Int) { hero { id } }",
+        "query @q { hero { id } }",
+        "mutation { hero { id } }",
+        "{ hero { id } } fragment F on Person { id }",
+        "{ hero { id ...F } }",
+        "{ hero { id ... { name } } }",
+        "{ hero { id ... on Person @defer { name } } }",
+        "{ hero { id ... @defer @defer { name } } }",
+        "{ hero { id ... @defer(if: true) { name } } }",
+        "{ hero { id ... @defer(label: D) { name } } }",
+        "{ hero { id ... @defer(label: \"D\", if: true) { name } } }",
+        "{ hero { id ... @defer { id } } }",
+        "{ hero { id ... @defer { ... @defer { name } } } }",
+        "{ hero { id ... @defer { name } age } }",
+        "{ hero { id ... @defer { name } ... @defer { age } } }",
+        "{ hero { ... @defer { id } } }",
+        "{ ... @defer { hero { id } } }",
+    ] {
+        let end = answered(alloc, "local s t d - 0 7", document.as_bytes(), NO_FAULT)?;
+        assert_eq!(rt; end.status.number(), 1, "{document}");
+        assert_eq!(rt; end.output.sent(), NOT_BUILT, "{document}");
+    }
+    Ok(())
+}
+
+/// What a refusal at a place writes.
+fn refusal(alloc: Global, name: &str, line: u32, column: u32) -> Result<String, Fail> {
+    Ok(format!(in alloc;
+        "---\r\nContent-Type: application/json; charset=utf-8\r\n\r\n{{\"errors\":[{{\"locations\":[{{\"column\":{column},\"line\":{line}}}],\"message\":\"Syntax: {name}\"}}]}}\r\n-----\r\n"
+    )?)
+}
+
+#[test]
+fn where_a_text_is_no_document(rt: HostRuntime) -> Result<(), Fail> {
+    let alloc = rt.alloc();
+    for (document, name, line, column) in [
+        ("", "Unexpected", 1, 1),
+        ("{ hero {", "Unexpected", 1, 9),
+        ("{ hero { } }", "Unexpected", 1, 10),
+        (
+            "{\n hero { id ... @defer() { name } } }",
+            "Unexpected",
+            2,
+            23,
+        ),
+        ("{ hero { id } } x", "Unexpected", 1, 17),
+        ("{ hero { id(x:1.5) } }", "FloatToken", 1, 15),
+        ("{ hero { id .. } }", "BadCharacter", 1, 13),
+        ("{ hero(x:\"a\\q\") { id } }", "BadEscape", 1, 12),
+        ("{ hero(x:\"a", "OpenString", 1, 10),
+        ("{ hero(x:-) { id } }", "BadNumber", 1, 10),
+    ] {
+        let end = answered(alloc, "local s t d - 0 7", document.as_bytes(), NO_FAULT)?;
+        let want = refusal(alloc, name, line, column)?;
+        assert_eq!(rt; end.status.number(), 1, "{document}");
+        assert_eq!(rt; end.output.sent(), want.as_bytes(), "{document}");
+    }
+    Ok(())
+}
+
+#[test]
+fn how_deep_and_how_long_a_document_is(rt: HostRuntime) -> Result<(), Fail> {
+    let alloc = rt.alloc();
+    let deep = refusal(alloc, "TooDeep", 1, 257)?;
+    for (depth, written) in [(128, NOT_BUILT), (129, deep.as_bytes())] {
+        let mut document = "{a".repeat(alloc, depth)?;
+        let closing = "}".repeat(alloc, depth)?;
+        document.push_str(closing.as_str())?;
+        let end = answered(alloc, "local s t d - 0 7", document.as_bytes(), NO_FAULT)?;
+        assert_eq!(rt; end.status.number(), 1);
+        assert_eq!(rt; end.output.sent(), written);
+    }
+    let long = "{".repeat(alloc, 1_048_577)?;
+    let end = answered(alloc, "local s t d - 0 7", long.as_bytes(), NO_FAULT)?;
+    assert_eq!(rt; end.status.number(), 1);
+    assert_eq!(rt; end.output.sent(), TOO_LONG);
     Ok(())
 }
 

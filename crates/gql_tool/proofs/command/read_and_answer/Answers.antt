@@ -1,20 +1,20 @@
 use Rattle.std.proofs.Common.{ℕ, List}
 use Rattle.gql_io.specs.Files.{Files}
 use Rattle.gql_tool.specs.Outcome.{Ways, AfterFile}
-use Rattle.gql_tool.specs.Local.{built, Answered}
+use Rattle.gql_tool.specs.Local.{RequestWays}
 use Rattle.gql_tool.proofs.Files.{stops_at, goes_on, at_end, at_work, same_request, meets_of}
 use Rattle.gql_tool.proofs.Asked.{client_of}
 use Rattle.gql_tool.proofs.command.read_and_answer.Goals as goal
 
 -- what follows each file
 abbrev after_document : (vars schema tables : List ℕ) → Files → List ℕ → Ways
-after_document vars s t files d = Answered (built vars s t d)
+after_document vars s t files d = RequestWays vars s t d
 
 abbrev after_tables : (document vars schema : List ℕ) → Files → List ℕ → Ways
-after_tables document vars s files t = AfterFile (files document) document (λ d. Answered (built vars s t d))
+after_tables document vars s files t = AfterFile (files document) document (λ d. RequestWays vars s t d)
 
 abbrev after_schema : (tables document vars : List ℕ) → Files → List ℕ → Ways
-after_schema tables document vars files s = AfterFile (files tables) tables (λ t. AfterFile (files document) document (λ d. Answered (built vars s t d)))
+after_schema tables document vars files s = AfterFile (files tables) tables (λ t. AfterFile (files document) document (λ d. RequestWays vars s t d))
 
 pub returns-in_err-schema-clause-meets : goal.returns-in_err-schema-clause-meets
 returns-in_err-schema-clause-meets g c =
@@ -45,9 +45,9 @@ returns-clause-meets g c =
     c.in_ok-tables.ensures.within c.in_ok-tables.ensures.kept
     (goes_on _ _ c.args.words.now.document.now c.in_ok-document.document (after_document c.args.words.now.vars.now c.in_ok-schema.schema c.in_ok-tables.tables) _ _ _ _ c.in_ok-document.ensures.same c.in_ok-document.ensures.found
     c.in_ok-document.ensures.within c.in_ok-document.ensures.kept
-    (at_work _ _ _ _ _ (same_request c.args.words.now.vars.now _ _ _ c.in_ok-schema.schema c.in_ok-tables.tables c.in_ok-document.document _ _ _ c.as_slice.ensures c.as_slice-2.ensures c.as_slice-3.ensures (meets_of _ _ _ _ _ c.in_ok-request.ensures.request c.answer.ensures.meets)))))
+    (at_work _ _ _ _ _ (same_request c.args.words.now.vars.now _ _ _ c.in_ok-schema.schema c.in_ok-tables.tables c.in_ok-document.document _ _ _ c.as_slice.ensures c.as_slice-2.ensures c.as_slice-3.ensures (meets_of c.args.words.now.vars.now c.as_slice.result.now c.as_slice-2.result.now c.as_slice-3.result.now _ _ _ _ c.in_ok-request.ensures.judged c.answer.ensures.meets)))))
 
 pub returns-clause-client : goal.returns-clause-client
 returns-clause-client g c =
     client_of _ _ _ c.args.words.now.schema.now c.args.words.now.tables.now c.args.words.now.document.now c.args.words.now.vars.now c.in_ok-schema.schema c.in_ok-tables.tables c.in_ok-document.document _ _ _ _ c.args.words.now.cut _ _ _
-    c.in_ok-schema.ensures.same c.in_ok-tables.ensures.same c.in_ok-schema.ensures.found c.in_ok-tables.ensures.found c.in_ok-document.ensures.found c.as_slice.ensures c.as_slice-2.ensures c.as_slice-3.ensures c.in_ok-request.ensures.request c.answer.ensures.client
+    c.in_ok-schema.ensures.same c.in_ok-tables.ensures.same c.in_ok-schema.ensures.found c.in_ok-tables.ensures.found c.in_ok-document.ensures.found c.as_slice.ensures c.as_slice-2.ensures c.as_slice-3.ensures c.in_ok-request.ensures.judged c.answer.ensures.client

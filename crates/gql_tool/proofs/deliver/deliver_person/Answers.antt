@@ -1,5 +1,5 @@
 use Rattle.std.proofs.Common.{List, sym, ap, subst, arith}
-use Rattle.gql_tool.specs.Document.{times, deferred_leaves_of}
+use Rattle.gql_tool.specs.Shape.{times, deferred_leaves_of}
 use Rattle.gql_tree.specs.declared.Payload.{Payload}
 use Rattle.gql_tool.specs.Handed.{HandedAll}
 use Rattle.gql_tool.proofs.HandedAll.{HandedAll-none}

@@ -1,6 +1,6 @@
 use Rattle.std.proofs.Common.{◌≤◌, arith}
-use Rattle.gql_tool.specs.declared.document.LeafName.{LeafName}
-use Rattle.gql_tool.specs.Document.{times}
+use Rattle.gql_tool.specs.declared.shape.LeafName.{LeafName}
+use Rattle.gql_tool.specs.Shape.{times}
 use Rattle.gql_tool.proofs.HeroOnce.{has_name-before}
 use Rattle.gql_tool.proofs.region.run_leaves.Goals as goal
 

@@ -1,8 +1,16 @@
-use Rattle.std.proofs.Common.{Option, IfSome, subst}
-use Rattle.gql_tool.specs.declared.document.HeroDocument.{HeroDocument}
-use Rattle.gql_tool.specs.declared.tables.HeroTables.{HeroTables}
-use Rattle.gql_tool.specs.Hero.{EachOnce}
+use Rattle.std.proofs.Common.{subst}
+use Rattle.gql_tool.specs.Hero.{CanRun}
+use Rattle.gql_tool.proofs.Requests.{no-text-meets}
 use Rattle.gql_tool.proofs.request.answer.Goals as goal
 
 pub execute-requires-clause-once : goal.execute-requires-clause-once
-execute-requires-clause-once g c = subst (λ (o : Option (HeroTables × HeroDocument)). IfSome o (λ x. EachOnce x.1)) c.in-Some.is c.requires.once
+execute-requires-clause-once g c = (subst CanRun c.in-Built.is c.requires.runs).1.0
+
+pub execute-requires-clause-stands : goal.execute-requires-clause-stands
+execute-requires-clause-stands g c = (subst CanRun c.in-Built.is c.requires.runs).0
+
+pub execute-requires-clause-placed : goal.execute-requires-clause-placed
+execute-requires-clause-placed g c = (subst CanRun c.in-Built.is c.requires.runs).1.1
+
+pub returns-in-NoText-clause-meets : goal.returns-in-NoText-clause-meets
+returns-in-NoText-clause-meets g c = no-text-meets _ _ _ _ _ c.in-NoText.is c.nowhere.ensures c.refuse.ensures.meets
