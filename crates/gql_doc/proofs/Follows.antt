@@ -1,7 +1,6 @@
 -- Tokens that say the same to the grammar: where some are a phrase, others that are alike are one of the same value.
 use Rattle.std.proofs.Common.{◌≡◌, ℕ, suc, inl, inr, Bool, true, false, List, [], ◌∷◌, ◌++◌, map, Option, Some, None, refl, sym, ◌∙◌, ap, subst}
-use Rattle.std.specs.Prelude.{◌==◌, ◌||◌, if◌then◌else◌, option_and_then}
-use Rattle.std.proofs.lemmas.Bool.{eqb-true}
+use Rattle.std.specs.Prelude.{◌||◌, if◌then◌else◌, option_and_then}
 use Rattle.gql_lex.specs.Tokens.{Lexeme}
 use Rattle.gql_doc.specs.StringValue.{string_value}
 use Rattle.gql_doc.specs.Phrase.{Phrase, token, returns, ◌>>=◌, either, never, many, some, optional, listed}
@@ -148,7 +147,6 @@ pub name_opens_none : (t : Lexeme) (room : ℕ) → is_name t ≡ true → room_
 name_opens_none t room h =
     let no = λ (byte : ℕ). name_by t.kind t.text byte h in
     λ i. if no 91 i || no 123 i then taken room else (if no 93 i || no 125 i then Some (suc room) else Some room)
-
 
 -- tokens that are alike nest alike
 pub room_alike : (ts os : List Lexeme) → AreAlike ts os → (room : ℕ) → room_after room os ≡ room_after room ts

@@ -1,6 +1,6 @@
 -- Each phrase of the grammar is kept by tokens that are alike, and its value is the same up to places.
 use Rattle.std.proofs.Common.{◌≡◌, ℕ, zero, suc, Bool, true, false, List, [], map, Option, Some, None, refl, sym, ◌∙◌, ap}
-use Rattle.std.specs.Prelude.{◌==◌, ◌&&◌, ◌||◌, not, if◌then◌else◌, option_map, codes}
+use Rattle.std.specs.Prelude.{◌&&◌, ◌||◌, not, if◌then◌else◌, option_map, codes}
 use Rattle.std.specs.Str.{bytes_eq}
 use Rattle.gql_tree.specs.declared.delivery.Spot.{Spot}
 use Rattle.gql_lex.specs.Tokens.{Lexeme}

@@ -1,7 +1,6 @@
 -- The tokens of a text, taken one after another.
-use Rattle.std.proofs.Common.{◌≡◌, ℕ, List, [], ◌∷◌, ◌++◌, map, take, drop, Option, Some, None, Ok, Err, refl, sym, ap, subst, ◌∙◌, append_assoc}
+use Rattle.std.proofs.Common.{◌≡◌, ℕ, List, [], ◌∷◌, ◌++◌, map, take, drop, Some, None, Ok, Err, sym, ap, subst, ◌∙◌, append_assoc}
 use Rattle.std.proofs.lemmas.List.{append-nil, take-append-drop, map_push}
-use Rattle.gql_lex.specs.Places.{spot_at}
 use Rattle.gql_lex.specs.Tokens.{Lexeme, lexeme, told, Lexes, End, Whole, Refused, next_of, done_with, left, Stands}
 use Rattle.gql_lex.specs.declared.lexer.Lexer.{Lexer}
 use Rattle.gql_lex.specs.declared.token.Token.{Token}
@@ -29,9 +28,9 @@ Lexed-more text old new items more token so_far answer stands rest is =
       whole = ap (λ t. (so_far.passed ++ take n (left old)) ++ t) rest ∙ append_assoc so_far.passed (take n (left old)) (drop n (left old)) ∙ ap (λ t. so_far.passed ++ t) (take-append-drop n (left old)) ∙ so_far.whole;
       stands = stands so_far.passed so_far.stands;
       others = λ tokens end h.
-        subst (λ all. Lexes [] text all end)
-        (sym (append_assoc (map lexeme items) (lexeme token ∷ []) tokens) ∙ ap (λ all. all ++ tokens) (sym (ap (map lexeme) is ∙ map_push lexeme items token)))
-        (so_far.others (lexeme token ∷ tokens) end (sym (answer so_far.passed so_far.stands), subst (λ t. Lexes (so_far.passed ++ take n (left old)) t tokens end) rest h));
+          subst (λ all. Lexes [] text all end)
+          (sym (append_assoc (map lexeme items) (lexeme token ∷ []) tokens) ∙ ap (λ all. all ++ tokens) (sym (ap (map lexeme) is ∙ map_push lexeme items token)))
+          (so_far.others (lexeme token ∷ tokens) end (sym (answer so_far.passed so_far.stands), subst (λ t. Lexes (so_far.passed ++ take n (left old)) t tokens end) rest h));
     }
 
 -- no more comes

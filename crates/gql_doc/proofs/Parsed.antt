@@ -1,15 +1,13 @@
 -- From what the parser reads to what a text is.
-use Rattle.std.proofs.Common.{◌≡◌, ◌⊎◌, inl, inr, ℕ, zero, suc, ◌<◌, ◌≤◌, Bool, true, false, List, [], ◌∷◌, ◌++◌, map, length, Option, Some, None, IsSome, Result, Ok, Err, refl, sym, ap, subst, ◌∙◌, append_assoc}
+use Rattle.std.proofs.Common.{◌≡◌, ◌⊎◌, inl, inr, ℕ, suc, true, false, List, [], ◌∷◌, ◌++◌, map, Some, None, IsSome, Result, Ok, Err, refl, sym, ap, subst, ◌∙◌, append_assoc}
 use Rattle.std.specs.Option.{option_and_then}
 use Rattle.std.proofs.lemmas.List.{append-nil}
-use Rattle.gql_lex.specs.Tokens.{Lexeme, lexeme, Lexes, End, Whole, Refused}
-use Rattle.gql_lex.specs.Places.{spot_at}
-use Rattle.gql_lex.specs.declared.token.LexRefusal.{LexRefusal}
+use Rattle.gql_lex.specs.Tokens.{Lexeme, lexeme, Lexes, Whole}
 use Rattle.gql_lex.proofs.Determined.{Lexes-determined}
 use Rattle.gql_doc.specs.Grammar.{IsDocument, document}
 use Rattle.gql_doc.specs.Marks.{is_opening}
-use Rattle.gql_doc.specs.Nesting.{room_behind, room_after, taken, IsWithin, limit}
-use Rattle.gql_doc.specs.Answer.{Begins, IsFine, Comes, IsUnexpected, IsCutShort, IsTooDeep, Is, Answers}
+use Rattle.gql_doc.specs.Nesting.{room_behind, room_after, IsWithin, limit}
+use Rattle.gql_doc.specs.Answer.{Begins, IsFine, Comes, IsUnexpected, IsTooDeep, Is, Answers}
 use Rattle.gql_doc.specs.Reading.{Reading, next_is}
 use Rattle.gql_doc.specs.Reading as reading
 use Rattle.gql_doc.specs.TextEnds.{end_of, IsPlaced}
@@ -22,7 +20,7 @@ use Rattle.gql_doc.specs.declared.refusal.ParseRefusal.TheVariants as refusal
 use Rattle.gql_doc.specs.declared.tokens.TextEnd.{TextEnd}
 use Rattle.gql_doc.specs.declared.tokens.TextEnd.TheVariants as end
 use Rattle.gql_doc.proofs.Sets.{union, marked, names, all_tokens}
-use Rattle.gql_doc.proofs.Predictive.{Begun, Found, Stopped, Cause, Deep, IsDeep, Reads, Predictive, room_both, same_why}
+use Rattle.gql_doc.proofs.Predictive.{Begun, Stopped, IsDeep, Reads, Predictive, room_both, same_why}
 use Rattle.gql_doc.proofs.Productions.{document-predictive, document_whole}
 use Rattle.gql_model.specs.declared.syntax.Document.{Document}
 
@@ -111,17 +109,27 @@ comes_of text tokens done more token text_end lexes whole fine = record { more =
 unexpected_token : (text : List ℕ) (tokens more : List Lexeme) (token : Lexeme) (text_end : TextEnd) → Lexes [] text tokens (end_of text_end) → reads_document tokens ≡ Err (stop.Unexpected, token ∷ more) → IsUnexpected text token.spot
 unexpected_token text tokens more token text_end lexes h =
     let s = (parses 0).stopped tokens (token ∷ more) stop.Unexpected h in
-    record { done = s.done; next = token; comes = comes_of text tokens s.done more token text_end lexes s.whole (fine_at tokens (token ∷ more) s);
-      no_document = no_more s.done more token (ap (reading.document limit) (sym s.whole) ∙ h); place = refl }
+    record {
+      done = s.done;
+      next = token;
+      comes = comes_of text tokens s.done more token text_end lexes s.whole (fine_at tokens (token ∷ more) s);
+      no_document = no_more s.done more token (ap (reading.document limit) (sym s.whole) ∙ h);
+      place = refl;
+    }
 
 deep_token : (text : List ℕ) (tokens more : List Lexeme) (token : Lexeme) (text_end : TextEnd) → Lexes [] text tokens (end_of text_end) → reads_document tokens ≡ Err (stop.TooDeep, token ∷ more) → IsTooDeep text token.spot
 deep_token text tokens more token text_end lexes h =
     let s = (parses 0).stopped tokens (token ∷ more) stop.TooDeep h in
     let d = s.cause.1 in
     let same : token ≡ d.next = cc d.is in
-    record { done = s.done; next = token; comes = comes_of text tokens s.done more token text_end lexes s.whole (record { begins = begins_of s.done s.begun; within = within_some s.done 0 s.cause.0 });
+    record {
+      done = s.done;
+      next = token;
+      comes = comes_of text tokens s.done more token text_end lexes s.whole (record { begins = begins_of s.done s.begun; within = within_some s.done 0 s.cause.0 });
       begins = subst (λ t. Begins (s.done ++ t ∷ [])) (sym same) (begins_of (s.done ++ d.next ∷ []) d.begun);
-      beyond = λ within. let no = subst IsSome (shut_room s.done [] token s.cause.0 (ap is_opening same ∙ d.opens)) within in absurd cc; place = refl }
+      beyond = λ within. let no = subst IsSome (shut_room s.done [] token s.cause.0 (ap is_opening same ∙ d.opens)) within in absurd cc;
+      place = refl;
+    }
 
 -- the tokens end inside a document
 ended : (text : List ℕ) (tokens : List Lexeme) (text_end : TextEnd) → Lexes [] text tokens (end_of text_end) → IsPlaced text text_end → reads_document tokens ≡ Err (stop.Unexpected, []) → Answers text (outcome (Err (stop.Unexpected, [])) text_end)

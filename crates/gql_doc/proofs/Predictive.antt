@@ -1,6 +1,6 @@
 -- Readers that look one token ahead read just what phrases are, and stop just where no phrase goes on: how this is seen of
 -- a reader that is put together of others.
-use Rattle.std.proofs.Common.{◌≡◌, ◌⊎◌, inl, inr, ℕ, zero, suc, ◌≤◌, ◌<◌, ◌+◌, Bool, true, false, ◌||◌, ◌&&◌, List, [], ◌∷◌, ◌++◌, length, Option, Some, None, Ok, Err, refl, sym, ap, subst, ◌∙◌, append_assoc, arith}
+use Rattle.std.proofs.Common.{◌≡◌, ◌⊎◌, inl, inr, ℕ, zero, suc, ◌≤◌, Bool, true, false, ◌||◌, ◌&&◌, List, [], ◌∷◌, ◌++◌, length, Option, Some, None, Ok, Err, refl, sym, ap, subst, ◌∙◌, append_assoc, arith}
 use Rattle.std.specs.Option.{option_and_then}
 use Rattle.std.proofs.lemmas.List.{append-nil, append_cancel_right, length-append}
 use Rattle.gql_lex.specs.Tokens.{Lexeme}
@@ -175,11 +175,11 @@ take_found {before} {after} test level (t ∷ tokens) rest value h = by (test t)
 take_stopped : (before : ℕ) (test : Lexeme → Bool) → Begun (token test) []
     → (tokens rest : List Lexeme) (why : Stop) → take test tokens ≡ Err (why, rest) → Stopped before (token test) tokens why rest
 take_stopped before test begun [] rest why h = record {
-    done = [];
-    whole = same_stop h;
-    begun = begun;
-    cause = subst (λ w. Cause before (token test) w [] rest) (same_why h) (before, refl);
-  }
+  done = [];
+  whole = same_stop h;
+  begun = begun;
+  cause = subst (λ w. Cause before (token test) w [] rest) (same_why h) (before, refl);
+}
 take_stopped before test begun (t ∷ tokens) rest why h = by (test t) refl
   where
     by : (b : Bool) → test t ≡ b → Stopped before (token test) (t ∷ tokens) why rest
@@ -262,17 +262,17 @@ bind_found first second tokens rest b (Err y) e h = absurd cc
 -- what some phrase begins with goes on as the whole does
 begun_first : {A B : Type 0} {p : Phrase A} {f : A → Phrase B} (tokens : List Lexeme) → Begun p tokens → ((a : A) → Begun (f a) []) → Begun (phrase.◌>>=◌ p f) tokens
 begun_first tokens one two = record {
-    more = one.more ++ (two one.value).more;
-    value = (two one.value).value;
-    is = (one.value, record { front = tokens ++ one.more; back = (two one.value).more; whole = sym (append_assoc tokens one.more (two one.value).more); front_is = one.is; back_is = (two one.value).is });
-  }
+  more = one.more ++ (two one.value).more;
+  value = (two one.value).value;
+  is = (one.value, record { front = tokens ++ one.more; back = (two one.value).more; whole = sym (append_assoc tokens one.more (two one.value).more); front_is = one.is; back_is = (two one.value).is });
+}
 
 begun_second : {A B : Type 0} {p : Phrase A} {f : A → Phrase B} (u tokens : List Lexeme) (a : A) → p u a → Begun (f a) tokens → Begun (phrase.◌>>=◌ p f) (u ++ tokens)
 begun_second u tokens a one two = record {
-    more = two.more;
-    value = two.value;
-    is = (a, record { front = u; back = tokens ++ two.more; whole = append_assoc u tokens two.more; front_is = one; back_is = two.is });
-  }
+  more = two.more;
+  value = two.value;
+  is = (a, record { front = u; back = tokens ++ two.more; whole = append_assoc u tokens two.more; front_is = one; back_is = two.is });
+}
 
 cause_first : {A B : Type 0} (n : ℕ) (p : Phrase A) (f : A → Phrase B) (why : Stop) (done rest : List Lexeme) → ((a : A) → Begun (f a) []) → Cause n p why done rest → Cause n (phrase.◌>>=◌ p f) why done rest
 cause_first n p f stop.Unexpected done rest two c = c
@@ -281,9 +281,10 @@ cause_first n p f stop.NoMemory done rest two c = c
 
 cause_second : {A B : Type 0} (n m : ℕ) (p : Phrase A) (f : A → Phrase B) (why : Stop) (u done rest : List Lexeme) (a : A) → p u a → room_after n u ≡ Some m → Cause m (f a) why done rest → Cause n (phrase.◌>>=◌ p f) why (u ++ done) rest
 cause_second n m p f stop.Unexpected u done rest a one room c = (c.0, room_both n m u done (Some c.0) room c.1)
-cause_second n m p f stop.TooDeep u done rest a one room c =
-    (room_both n m u done (Some 0) room c.0,
-    record { next = c.1.next; more = c.1.more; is = c.1.is; opens = c.1.opens; begun = subst (Begun (phrase.◌>>=◌ p f)) (sym (append_assoc u done (c.1.next ∷ []))) (begun_second u (done ++ c.1.next ∷ []) a one c.1.begun) })
+cause_second n m p f stop.TooDeep u done rest a one room c = (
+  room_both n m u done (Some 0) room c.0,
+  record { next = c.1.next; more = c.1.more; is = c.1.is; opens = c.1.opens; begun = subst (Begun (phrase.◌>>=◌ p f)) (sym (append_assoc u done (c.1.next ∷ []))) (begun_second u (done ++ c.1.next ∷ []) a one c.1.begun) },
+)
 cause_second n m p f stop.NoMemory u done rest a one room c = c
 
 bind_stopped : {A B : Type 0} (n m : ℕ) (p : Phrase A) (f : A → Phrase B) {r : Reader A} {s : A → Reader B}
@@ -392,14 +393,14 @@ bind_apart-predictive {n = n} {m = m} {p = p} {q = q} {f = f} {g = g} {r = r} {s
   stopped = λ tokens rest why h. bind_stopped n m p f one.found one.stopped (λ a. (two a).stopped) (λ a. (two a).begun) tokens rest why (r tokens) refl h;
   begun = begun_first [] one.begun (λ a. (two a).begun);
   solid = λ b h. let none = nil_both h.1.front h.1.back h.1.whole in
-    both_true e1 e2 (one.solid h.0 (subst (λ w. p w h.0) none.0 h.1.front_is)) ((two h.0).solid b (subst (λ w. f h.0 w b) none.1 h.1.back_is));
+      both_true e1 e2 (one.solid h.0 (subst (λ w. p w h.0) none.0 h.1.front_is)) ((two h.0).solid b (subst (λ w. f h.0 w b) none.1 h.1.back_is));
   begins = λ t ts b h. bind_begins q g F1 F2 e1 one.begins one.blank (λ a. (two a).begins) t ts h.1.front h.1.back h.0 b h.1.whole h.1.front_is h.1.back_is;
   blank = λ b h. let none = nil_both h.1.front h.1.back h.1.whole in
-    both_true e1 e2 (one.blank h.0 (subst (λ w. q w h.0) none.0 h.1.front_is)) ((two h.0).blank b (subst (λ w. g h.0 w b) none.1 h.1.back_is));
+      both_true e1 e2 (one.blank h.0 (subst (λ w. q w h.0) none.0 h.1.front_is)) ((two h.0).blank b (subst (λ w. g h.0 w b) none.1 h.1.back_is));
   reads = λ tokens rest b h clear.
-    let whole : tokens ++ rest ≡ h.1.front ++ (h.1.back ++ rest) = ap (λ w. w ++ rest) h.1.whole ∙ append_assoc h.1.front h.1.back rest in
-    subst (λ w. Reads (behind (r w) s) b rest) (sym whole)
-    (bind_reads r s (h.1.front ++ (h.1.back ++ rest)) (h.1.back ++ rest) h.0 b
+      let whole : tokens ++ rest ≡ h.1.front ++ (h.1.back ++ rest) = ap (λ w. w ++ rest) h.1.whole ∙ append_assoc h.1.front h.1.back rest in
+      subst (λ w. Reads (behind (r w) s) b rest) (sym whole)
+      (bind_reads r s (h.1.front ++ (h.1.back ++ rest)) (h.1.back ++ rest) h.0 b
       (one.reads h.1.front (h.1.back ++ rest) h.0 h.1.front_is (bind_clear g F2 N1 N2 e2 (λ a. (two a).begins) (λ a. (two a).blank) apart h.1.back rest h.0 b h.1.back_is clear))
       rest ((two h.0).reads h.1.back rest b h.1.back_is (clear_left N2 (only_if e2 N1) rest clear)));
   local = record {
@@ -477,13 +478,14 @@ next_is-append test u rest other same = test_of-next test (u ++ rest) ∙ ap (te
 
 pick_local : {A : Type 0} {r s : Reader A} (test : Lexeme → Bool) → IsLocal r → IsLocal s → IsLocal (pick test r s)
 pick_local {A} {r} {s} test one two = record {
-    ok = λ u v rest other a same h. ok u v rest other a (next_is test (u ++ rest)) same refl h;
-    err = λ u v rest other why same h. err u v rest other why (next_is test (u ++ rest)) same refl h;
-  }
+  ok = λ u v rest other a same h. ok u v rest other a (next_is test (u ++ rest)) same refl h;
+  err = λ u v rest other why same h. err u v rest other why (next_is test (u ++ rest)) same refl h;
+}
   where
     ok : (u v rest other : List Lexeme) (a : A) (b : Bool) → next rest ≡ next other → next_is test (u ++ rest) ≡ b → pick test r s (u ++ rest) ≡ Ok (a, v ++ rest) → pick test r s (u ++ other) ≡ Ok (a, v ++ other)
     ok u v rest other a true same e h = pick_yes test r s (u ++ other) (sym (next_is-append test u rest other same) ∙ e) ∙ one.ok u v rest other a same (sym (pick_yes test r s (u ++ rest) e) ∙ h)
     ok u v rest other a false same e h = pick_no test r s (u ++ other) (sym (next_is-append test u rest other same) ∙ e) ∙ two.ok u v rest other a same (sym (pick_no test r s (u ++ rest) e) ∙ h)
+
     err : (u v rest other : List Lexeme) (why : Stop) (b : Bool) → next rest ≡ next other → next_is test (u ++ rest) ≡ b → pick test r s (u ++ rest) ≡ Err (why, v ++ rest) → pick test r s (u ++ other) ≡ Err (why, v ++ other)
     err u v rest other why true same e h = pick_yes test r s (u ++ other) (sym (next_is-append test u rest other same) ∙ e) ∙ one.err u v rest other why same (sym (pick_yes test r s (u ++ rest) e) ∙ h)
     err u v rest other why false same e h = pick_no test r s (u ++ other) (sym (next_is-append test u rest other same) ∙ e) ∙ two.err u v rest other why same (sym (pick_no test r s (u ++ rest) e) ∙ h)
@@ -548,15 +550,15 @@ pub other-predictive : {A : Type 0} {n m : ℕ} {p q : Phrase A} {r : Reader A} 
     → ((tokens : List Lexeme) (a : A) → q' tokens a → q tokens a)
     → Predictive n m p q r F N e → Predictive n m p' q' r F N e
 other-predictive {n = n} {p = p} p' q' there back fewer one = record {
-    found = λ tokens rest a h. let f = one.found tokens rest a h in record { used = f.used; whole = f.whole; is = there f.used a f.is; room = f.room };
-    stopped = λ tokens rest why h. wider_stopped n p p' wider tokens why rest (one.stopped tokens rest why h);
-    begun = wider [] one.begun;
-    solid = λ a h. one.solid a (back [] a h);
-    begins = λ t ts a h. one.begins t ts a (fewer (t ∷ ts) a h);
-    blank = λ a h. one.blank a (fewer [] a h);
-    reads = λ tokens rest a h clear. one.reads tokens rest a (fewer tokens a h) clear;
-    local = one.local;
-  }
+  found = λ tokens rest a h. let f = one.found tokens rest a h in record { used = f.used; whole = f.whole; is = there f.used a f.is; room = f.room };
+  stopped = λ tokens rest why h. wider_stopped n p p' wider tokens why rest (one.stopped tokens rest why h);
+  begun = wider [] one.begun;
+  solid = λ a h. one.solid a (back [] a h);
+  begins = λ t ts a h. one.begins t ts a (fewer (t ∷ ts) a h);
+  blank = λ a h. one.blank a (fewer [] a h);
+  reads = λ tokens rest a h clear. one.reads tokens rest a (fewer tokens a h) clear;
+  local = one.local;
+}
   where
     wider : (tokens : List Lexeme) → Begun p tokens → Begun p' tokens
     wider tokens b = record { more = b.more; value = b.value; is = there (tokens ++ b.more) b.value b.is }
@@ -576,7 +578,9 @@ shut_stopped {A} p test begun opens [] rest why true e h = false_true e
 shut_stopped {A} p test begun opens (t ∷ tokens) rest why true e h =
     let is = sym (shut_by {A = A} test (t ∷ tokens) true e) ∙ h in
     record {
-      done = []; whole = same_stop is; begun = begun;
+      done = [];
+      whole = same_stop is;
+      begun = begun;
       cause = subst (λ w. Cause 0 p w [] rest) (same_why is) (refl, record { next = t; more = tokens; is = sym (same_stop is); opens = (opens t e).0; begun = (opens t e).1 });
     }
 
@@ -595,18 +599,18 @@ pub shut-predictive : {A : Type 0} {m : ℕ} (p q : Phrase A) (test : Lexeme →
     → ((t : Lexeme) (ts : List Lexeme) (a : A) → q (t ∷ ts) a → test t ≡ true) → ((t : Lexeme) → test t ≡ true → has F t ≡ true)
     → Predictive 0 m p q (shut test) F no_tokens false
 shut-predictive {A} p q test F begun solid blank opens passes covers = record {
-    found = λ tokens rest a h. shut_found test tokens rest a (next_is test tokens) refl h;
-    stopped = λ tokens rest why h. shut_stopped p test begun opens tokens rest why (next_is test tokens) refl h;
-    begun = begun;
-    solid = λ a h. absurd (solid a h);
-    begins = λ t ts a h. covers t (passes t ts a h);
-    blank = λ a h. absurd (blank a h);
-    reads = reads;
-    local = record {
-      ok = λ u v rest other a same h. shut_found test (u ++ rest) (v ++ rest) a (next_is test (u ++ rest)) refl h;
-      err = λ u v rest other why same h. shut_err test u v rest other why (next_is test (u ++ rest)) same refl h;
-    };
-  }
+  found = λ tokens rest a h. shut_found test tokens rest a (next_is test tokens) refl h;
+  stopped = λ tokens rest why h. shut_stopped p test begun opens tokens rest why (next_is test tokens) refl h;
+  begun = begun;
+  solid = λ a h. absurd (solid a h);
+  begins = λ t ts a h. covers t (passes t ts a h);
+  blank = λ a h. absurd (blank a h);
+  reads = reads;
+  local = record {
+    ok = λ u v rest other a same h. shut_found test (u ++ rest) (v ++ rest) a (next_is test (u ++ rest)) refl h;
+    err = λ u v rest other why same h. shut_err test u v rest other why (next_is test (u ++ rest)) same refl h;
+  };
+}
   where
     reads : (tokens rest : List Lexeme) (a : A) → q tokens a → Clear no_tokens rest → Reads (shut {A = A} test (tokens ++ rest)) a rest
     reads [] rest a h clear = absurd (blank a h)
@@ -624,12 +628,25 @@ many_more : {A : Type 0} (p : Phrase A) (tokens : List Lexeme) (vs : List A) →
 many_more p tokens vs h =
     let inner = h.1.back_is in
     subst (phrase.many p tokens) (sym inner.1.back_is.1)
-    (record { front = h.1.front; back = h.1.back; whole = h.1.whole; front_is = h.1.front_is;
-      back_is = subst (λ w. phrase.many p w inner.0) (sym (append-nil inner.1.front) ∙ ap (λ w. inner.1.front ++ w) (sym inner.1.back_is.0) ∙ sym inner.1.whole) inner.1.front_is })
+    (record {
+      front = h.1.front;
+      back = h.1.back;
+      whole = h.1.whole;
+      front_is = h.1.front_is;
+      back_is = subst (λ w. phrase.many p w inner.0) (sym (append-nil inner.1.front) ∙ ap (λ w. inner.1.front ++ w) (sym inner.1.back_is.0) ∙ sym inner.1.whole) inner.1.front_is;
+    })
 
 more_many : {A : Type 0} (p : Phrase A) (tokens : List Lexeme) (a : A) (vs : List A) → phrase.many p tokens (a ∷ vs) → phrase.◌>>=◌ p (more_of p) tokens (a ∷ vs)
-more_many p tokens a vs h = (a, record { front = h.front; back = h.back; whole = h.whole; front_is = h.front_is;
-    back_is = (vs, record { front = h.back; back = []; whole = sym (append-nil h.back); front_is = h.back_is; back_is = (refl, refl) }) })
+more_many p tokens a vs h = (
+  a,
+  record {
+    front = h.front;
+    back = h.back;
+    whole = h.whole;
+    front_is = h.front_is;
+    back_is = (vs, record { front = h.back; back = []; whole = sym (append-nil h.back); front_is = h.back_is; back_is = (refl, refl) });
+  },
+)
 
 many_none : {A : Type 0} (p : Phrase A) (tokens : List Lexeme) (vs : List A) → tokens ≡ [] → vs ≡ [] → phrase.many p tokens vs
 many_none p tokens vs e f = subst (phrase.many p tokens) (sym f) e
@@ -653,15 +670,18 @@ module _ {A : Type 0} (n : ℕ) (p : Phrase A) (r : Reader A) (test : Lexeme →
     (found : (tokens rest : List Lexeme) (a : A) → r tokens ≡ Ok (a, rest) → Found n n p tokens a rest)
     (stops : (tokens rest : List Lexeme) (why : Stop) → r tokens ≡ Err (why, rest) → Stopped n p tokens why rest)
     (begun : Begun p []) where
-
   many_found : (f : ℕ) (tokens rest : List Lexeme) (vs : List A) → reading.many_at f test r tokens ≡ Ok (vs, rest) → Found n n (phrase.many p) tokens vs rest
   many_found zero tokens rest vs h = record { used = []; whole = same_rest h; is = many_none p [] vs refl (sym (same_value h)); room = refl }
   many_found (suc f) tokens rest vs h =
       let one = pick_found (phrase.◌>>=◌ p (more_of p)) (returns []) test
-            (λ ts rs vs h. bind_found found (λ a ts rs bs h. bind_found (many_found f) (λ cs ts rs bs h. gives_found (a ∷ cs) ts rs bs h) ts rs bs (reading.many_at f test r ts) refl h) ts rs vs (r ts) refl h)
-            (gives_found []) tokens rest vs (next_is test tokens) refl h in
-      record { used = one.used; whole = one.whole; room = one.room;
-        is = elim one.is [ inl x ↦ many_more p one.used vs x | inr x ↦ many_none p one.used vs x.0 x.1 ] }
+      (λ ts rs vs h. bind_found found (λ a ts rs bs h. bind_found (many_found f) (λ cs ts rs bs h. gives_found (a ∷ cs) ts rs bs h) ts rs bs (reading.many_at f test r ts) refl h) ts rs vs (r ts) refl h)
+      (gives_found []) tokens rest vs (next_is test tokens) refl h in
+      record {
+        used = one.used;
+        whole = one.whole;
+        room = one.room;
+        is = elim one.is [ inl x ↦ many_more p one.used vs x | inr x ↦ many_none p one.used vs x.0 x.1 ];
+      }
 
   -- where the first comes
   more_found : (f : ℕ) (tokens rest : List Lexeme) (vs : List A) → behind (r tokens) (more_by (reading.many_at f test r)) ≡ Ok (vs, rest) → Found n n (phrase.◌>>=◌ p (more_of p)) tokens vs rest
@@ -671,13 +691,13 @@ module _ {A : Type 0} (n : ℕ) (p : Phrase A) (r : Reader A) (test : Lexeme →
   many_stopped zero tokens rest why h = absurd cc
   many_stopped (suc f) tokens rest why h =
       let one = pick_stopped {n = n} (phrase.◌>>=◌ p (more_of p)) (returns []) test
-            (λ ts rs why h. bind_stopped n n p (more_of p) found stops
-              (λ a ts rs why h. bind_stopped n n (phrase.many p) (λ cs. returns (a ∷ cs)) (many_found f) (many_stopped f) (λ cs. gives_stopped n (a ∷ cs)) (λ cs. record { more = []; value = a ∷ cs; is = (refl, refl) }) ts rs why (reading.many_at f test r ts) refl h)
-              (more_begun p) ts rs why (r ts) refl h)
-            (gives_stopped n []) tokens rest why (next_is test tokens) refl h in
+      (λ ts rs why h. bind_stopped n n p (more_of p) found stops
+      (λ a ts rs why h. bind_stopped n n (phrase.many p) (λ cs. returns (a ∷ cs)) (many_found f) (many_stopped f) (λ cs. gives_stopped n (a ∷ cs)) (λ cs. record { more = []; value = a ∷ cs; is = (refl, refl) }) ts rs why (reading.many_at f test r ts) refl h)
+      (more_begun p) ts rs why (r ts) refl h)
+      (gives_stopped n []) tokens rest why (next_is test tokens) refl h in
       wider_stopped n (either (phrase.◌>>=◌ p (more_of p)) (returns [])) (phrase.many p)
-        (λ ts b. record { more = b.more; value = b.value; is = elim b.is [ inl x ↦ many_more p (ts ++ b.more) b.value x | inr x ↦ many_none p (ts ++ b.more) b.value x.0 x.1 ] })
-        tokens why rest one
+      (λ ts b. record { more = b.more; value = b.value; is = elim b.is [ inl x ↦ many_more p (ts ++ b.more) b.value x | inr x ↦ many_none p (ts ++ b.more) b.value x.0 x.1 ] })
+      tokens why rest one
 
   more_stopped : (f : ℕ) (tokens rest : List Lexeme) (why : Stop) → behind (r tokens) (more_by (reading.many_at f test r)) ≡ Err (why, rest) → Stopped n (phrase.◌>>=◌ p (more_of p)) tokens why rest
   more_stopped f tokens rest why h = bind_stopped n n p (more_of p) found stops
@@ -722,18 +742,24 @@ many_reads {A} q r F N T test reads begins blank passes covers apart f tokens re
   where
     whole : tokens ++ rest ≡ h.front ++ (h.back ++ rest)
     whole = ap (λ w. w ++ rest) h.whole ∙ append_assoc h.front h.back rest
+
     solid : h.front ≡ [] → ⊥
     solid e = blank a (subst (λ w. q w a) e h.front_is)
+
     less : (g : ℕ) × (f ≡ suc g) × (length (h.back ++ rest) ≤ g)
     less = some_more h.front (h.back ++ rest) f solid (subst (λ w. length w ≤ f) whole le)
+
     first_passes : (front : List Lexeme) → q front a → next_is test (front ++ (h.back ++ rest)) ≡ true
     first_passes [] is = absurd (blank a is)
     first_passes (x ∷ front) is = passes x (begins x front a is)
+
     yes_first : next_is test (h.front ++ (h.back ++ rest)) ≡ true
     yes_first = first_passes h.front h.front_is
+
     behind_clear : (back : List Lexeme) → phrase.many q back vs → Clear N (back ++ rest)
     behind_clear [] is = clear_right T N rest clear
     behind_clear (x ∷ back) is = disjoint-has F N x apart (many_begins q F begins blank x back vs is)
+
     turn : ((g : ℕ) → length (h.back ++ rest) ≤ g → Reads (reading.many_at g test r (h.back ++ rest)) vs rest) → Reads (behind (r (h.front ++ (h.back ++ rest))) (more_by (reading.many_at less.0 test r))) (a ∷ vs) rest
     turn others = bind_reads r (more_by (reading.many_at less.0 test r)) (h.front ++ (h.back ++ rest)) (h.back ++ rest) a (a ∷ vs)
         (reads h.front (h.back ++ rest) a h.front_is (behind_clear h.back h.back_is)) rest
@@ -763,7 +789,6 @@ module _ {A : Type 0} (p : Phrase A) (r : Reader A) (test : Lexeme → Bool) (n 
     (found : (tokens rest : List Lexeme) (a : A) → r tokens ≡ Ok (a, rest) → Found n n p tokens a rest)
     (stops : (tokens rest : List Lexeme) (why : Stop) → r tokens ≡ Err (why, rest) → Stopped n p tokens why rest)
     (solid : (a : A) → p [] a → ⊥) (begun : Begun p []) (one : IsLocal r) where
-
   shorter : (tokens rest : List Lexeme) (a : A) (f : ℕ) → length tokens ≤ suc f → r tokens ≡ Ok (a, rest) → length rest ≤ f
   shorter tokens rest a f le h = let is = found tokens rest a h in by is.used is.whole is.is
     where
@@ -831,7 +856,7 @@ module _ {A : Type 0} (p : Phrase A) (r : Reader A) (test : Lexeme → Bool) (n 
       let first : r (u ++ other) ≡ Ok (x.0, (used.0 ++ v) ++ other) = one.ok u (used.0 ++ v) rest other x.0 same (reads ∙ (λ i. Ok (x.0, whole i))) in
       let short = shorter (u ++ rest) x.1 x.0 f le reads in
       let others = keeps (used.0 ++ v) v rest other y.0 same (subst (λ w. length w ≤ f) whole short) (shorter (u ++ other) ((used.0 ++ v) ++ other) x.0 g le2 first)
-            (ap (reading.many_at f test r) (sym whole) ∙ turn ∙ (λ i. Ok (y.0, last i))) in
+      (ap (reading.many_at f test r) (sym whole) ∙ turn ∙ (λ i. Ok (y.0, last i))) in
       ap (λ w. behind w (more_by (reading.many_at g test r))) first ∙ ap (λ w. behind w (λ bs. gives (x.0 ∷ bs))) others ∙ (λ i. Ok (same_value done i, v ++ other))
 
   err_turn : (f g : ℕ) → KeepsErr f g → (u v rest other : List Lexeme) (why : Stop) (x : Reading A) (y : Reading (List A)) → next rest ≡ next other → length (u ++ rest) ≤ suc f → length (u ++ other) ≤ suc g
@@ -849,7 +874,7 @@ module _ {A : Type 0} (p : Phrase A) (r : Reader A) (test : Lexeme → Bool) (n 
       let first : r (u ++ other) ≡ Ok (x.0, (used.0 ++ v) ++ other) = one.ok u (used.0 ++ v) rest other x.0 same (reads ∙ (λ i. Ok (x.0, whole i))) in
       let short = shorter (u ++ rest) x.1 x.0 f le reads in
       let others = keeps (used.0 ++ v) v rest other why same (subst (λ w. length w ≤ f) whole short) (shorter (u ++ other) ((used.0 ++ v) ++ other) x.0 g le2 first)
-            (ap (reading.many_at f test r) (sym whole) ∙ told) in
+      (ap (reading.many_at f test r) (sym whole) ∙ told) in
       ap (λ w. behind w (more_by (reading.many_at g test r))) first ∙ ap (λ w. behind w (λ bs. gives (x.0 ∷ bs))) others
 
   ok_by : (f g : ℕ) → KeepsOk f g → (u v rest other : List Lexeme) (vs : List A) (b : Bool) → next rest ≡ next other → length (u ++ rest) ≤ suc f → length (u ++ other) ≤ suc g → next_is test (u ++ rest) ≡ b
@@ -914,7 +939,6 @@ module _ {A : Type 0} (n : ℕ) (p : Phrase A) (r : Reader A) (test : Lexeme →
     (found : (tokens rest : List Lexeme) (a : A) → r tokens ≡ Ok (a, rest) → Found n n p tokens a rest)
     (stops : (tokens rest : List Lexeme) (why : Stop) → r tokens ≡ Err (why, rest) → Stopped n p tokens why rest)
     (begun : Begun p []) where
-
   some_begun : Begun (phrase.some p) []
   some_begun = begun_first [] begun (more_begun p)
 
@@ -948,15 +972,15 @@ pub some-predictive : {A : Type 0} {n : ℕ} {p q : Phrase A} {r : Reader A} {F 
     → ((t : Lexeme) → has F t ≡ true → test t ≡ true) → ((t : Lexeme) → test t ≡ true → has T t ≡ true) → disjoint F N ≡ true
     → Predictive n n p q r F N false → Predictive n n (phrase.some p) (phrase.some q) (reading.some test r) F (union T N) false
 some-predictive {A} {n = n} {p = p} {q = q} {r = r} {F = F} {N = N} test T passes covers apart one = record {
-    found = λ tokens rest vs h. some_found n p r test one.found one.stopped one.begun tokens rest vs (next_is test tokens) refl h;
-    stopped = λ tokens rest why h. some_stopped n p r test one.found one.stopped one.begun tokens rest why (next_is test tokens) refl h;
-    begun = some_begun n p r test one.found one.stopped one.begun;
-    solid = λ vs h. absurd (some_nil p (λ a x. false_true (one.solid a x)) vs h);
-    begins = λ t ts vs h. many_begins q F one.begins (λ a x. false_true (one.blank a x)) t ts vs (some_is_more q (t ∷ ts) vs h);
-    blank = λ vs h. absurd (some_nil q (λ a x. false_true (one.blank a x)) vs h);
-    reads = reads;
-    local = pick_local test (many_local p r test n one.found one.stopped (λ a x. false_true (one.solid a x)) one.begun one.local) none_local;
-  }
+  found = λ tokens rest vs h. some_found n p r test one.found one.stopped one.begun tokens rest vs (next_is test tokens) refl h;
+  stopped = λ tokens rest why h. some_stopped n p r test one.found one.stopped one.begun tokens rest why (next_is test tokens) refl h;
+  begun = some_begun n p r test one.found one.stopped one.begun;
+  solid = λ vs h. absurd (some_nil p (λ a x. false_true (one.solid a x)) vs h);
+  begins = λ t ts vs h. many_begins q F one.begins (λ a x. false_true (one.blank a x)) t ts vs (some_is_more q (t ∷ ts) vs h);
+  blank = λ vs h. absurd (some_nil q (λ a x. false_true (one.blank a x)) vs h);
+  reads = reads;
+  local = pick_local test (many_local p r test n one.found one.stopped (λ a x. false_true (one.solid a x)) one.begun one.local) none_local;
+}
   where
     reads : (tokens rest : List Lexeme) (vs : List A) → phrase.some q tokens vs → Clear (union T N) rest → Reads (reading.some test r (tokens ++ rest)) vs rest
     reads [] rest vs h clear = absurd (some_nil q (λ a x. false_true (one.blank a x)) vs h)
@@ -972,24 +996,26 @@ pub forbid-predictive : {A : Type 0} {n m : ℕ} {p q : Phrase A} {s : Reader A}
     → ((t : Lexeme) → has F t ≡ true → test t ≡ false)
     → Predictive n m p q s F N false → Predictive n m (either never p) (either never q) (pick test none_comes s) F N false
 forbid-predictive {A} {n = n} {m = m} {p = p} {q = q} {s = s} {F = F} {N = N} test fails one = record {
-    found = λ tokens rest a h. found tokens rest a (next_is test tokens) refl h;
-    stopped = λ tokens rest why h. wider_stopped n p (either never p) (begun_right never p) tokens why rest (stopped tokens rest why (next_is test tokens) refl h);
-    begun = begun_right never p [] one.begun;
-    solid = λ a h. elim h [ inl x ↦ absurd x | inr x ↦ one.solid a x ];
-    begins = λ t ts a h. elim h [ inl x ↦ absurd x | inr x ↦ one.begins t ts a x ];
-    blank = λ a h. elim h [ inl x ↦ absurd x | inr x ↦ one.blank a x ];
-    reads = λ tokens rest a h clear. elim h [ inl x ↦ absurd x | inr x ↦ reads tokens rest a x clear ];
-    local = pick_local test none_local one.local;
-  }
+  found = λ tokens rest a h. found tokens rest a (next_is test tokens) refl h;
+  stopped = λ tokens rest why h. wider_stopped n p (either never p) (begun_right never p) tokens why rest (stopped tokens rest why (next_is test tokens) refl h);
+  begun = begun_right never p [] one.begun;
+  solid = λ a h. elim h [ inl x ↦ absurd x | inr x ↦ one.solid a x ];
+  begins = λ t ts a h. elim h [ inl x ↦ absurd x | inr x ↦ one.begins t ts a x ];
+  blank = λ a h. elim h [ inl x ↦ absurd x | inr x ↦ one.blank a x ];
+  reads = λ tokens rest a h clear. elim h [ inl x ↦ absurd x | inr x ↦ reads tokens rest a x clear ];
+  local = pick_local test none_local one.local;
+}
   where
     found : (tokens rest : List Lexeme) (a : A) (b : Bool) → next_is test tokens ≡ b → pick test none_comes s tokens ≡ Ok (a, rest) → Found n m (either never p) tokens a rest
     found tokens rest a true e h = let no = sym (pick_yes test none_comes s tokens e) ∙ h in absurd cc
     found tokens rest a false e h = let f = one.found tokens rest a (sym (pick_no test none_comes s tokens e) ∙ h) in record { used = f.used; whole = f.whole; is = inr f.is; room = f.room }
+
     stopped : (tokens rest : List Lexeme) (why : Stop) (b : Bool) → next_is test tokens ≡ b → pick test none_comes s tokens ≡ Err (why, rest) → Stopped n p tokens why rest
     stopped tokens rest why true e h =
         let is = sym (pick_yes test none_comes s tokens e) ∙ h in
         record { done = []; whole = same_stop is; begun = one.begun; cause = subst (λ w. Cause n p w [] rest) (same_why is) (n, refl) }
     stopped tokens rest why false e h = one.stopped tokens rest why (sym (pick_no test none_comes s tokens e) ∙ h)
+
     reads : (tokens rest : List Lexeme) (a : A) → q tokens a → Clear N rest → Reads (pick test none_comes s (tokens ++ rest)) a rest
     reads [] rest a h clear = false_true (one.blank a h)
     reads (t ∷ tokens) rest a h clear =

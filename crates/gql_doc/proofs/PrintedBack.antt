@@ -1,28 +1,27 @@
 -- What is printed of a document reads back: its text is the same document up to places.
 use Rattle.std.proofs.Common.{◌≡◌, ℕ, Bool, true, false, inl, inr, List, [], ◌∷◌, map, refl, sym, ◌∙◌, ap, subst, IsUtf8}
-use Rattle.std.specs.Prelude.{◌==◌, if◌then◌else◌, IsSome}
+use Rattle.std.specs.Prelude.{◌==◌, IsSome}
 use Rattle.std.proofs.lemmas.Bool.{eqb-true}
 use Rattle.std.specs.List.{AllByRecursion as Each}
 use Rattle.gql_lex.specs.Classes.{is_mark as is_lex_mark}
-use Rattle.gql_lex.specs.Tokens.{Lexeme, Lexes, Whole}
+use Rattle.gql_lex.specs.Tokens.{Lexeme, Whole}
 use Rattle.gql_lex.proofs.Lexing.{IsRight, tokens-right}
 use Rattle.gql_lex.proofs.Texts.{IsPlain, IsPunctuator}
 use Rattle.gql_doc.specs.Answer.{Is}
 use Rattle.gql_doc.proofs.Quoting.{quoted_reads_back}
-use Rattle.gql_doc.proofs.Pieces.{IsText, IsWritten}
+use Rattle.gql_doc.proofs.Pieces.{IsWritten}
 use Rattle.gql_doc.proofs.Spaced.{spaced_lexes}
 use Rattle.gql_doc.proofs.Written.{string-written, IsUtf8-spaced}
 use Rattle.gql_doc.proofs.Meant.{values-utf8}
 use Rattle.gql_lex.specs.declared.token.TokenKind.{TokenKind}
 use Rattle.gql_lex.specs.declared.token.TokenKind.TheVariants as kind
 use Rattle.gql_doc.specs.StringValue.{string_value}
-use Rattle.gql_doc.specs.Quoting.{quoted_text}
-use Rattle.gql_doc.specs.Marks.{is_mark_of, is_name_kind, is_number_kind, is_string, is_string_kind}
+use Rattle.gql_doc.specs.Marks.{is_mark_of, is_name_kind, is_number_kind, is_string_kind}
 use Rattle.gql_doc.specs.Nesting.{limit, IsWithin}
 use Rattle.gql_doc.specs.Grammar.{IsDocument}
 use Rattle.gql_doc.specs.Grammar
 use Rattle.gql_doc.specs.Pieces.{Piece, piece}
-use Rattle.gql_doc.specs.Printed.{mark, dots, word, number, string, printed, print_text}
+use Rattle.gql_doc.specs.Printed.{mark, dots, string, printed, print_text}
 use Rattle.gql_doc.specs.Unplaced.{unplaced}
 use Rattle.gql_doc.proofs.Follows.{Alike, AreAlike, room_alike}
 use Rattle.gql_doc.proofs.FollowsGrammar.{follows_document}

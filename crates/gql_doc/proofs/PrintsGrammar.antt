@@ -1,6 +1,6 @@
 -- What is printed of each phrase of the grammar.
 use Rattle.std.proofs.Common.{◌≡◌, ℕ, zero, suc, Bool, true, false, List, [], ◌∷◌, ◌++◌, flat_map, Option, Some, None, refl, sym, ◌∙◌, ap, append_assoc}
-use Rattle.std.specs.Prelude.{◌==◌, ◌&&◌, ◌||◌, if◌then◌else◌, codes}
+use Rattle.std.specs.Prelude.{◌&&◌, ◌||◌, if◌then◌else◌, codes}
 use Rattle.std.specs.Str.{bytes_eq}
 use Rattle.std.proofs.lemmas.Bool.{eqb-true}
 use Rattle.std.proofs.lemmas.Slice.Eq.{bytes_eq-Decides}
@@ -16,7 +16,7 @@ use Rattle.gql_doc.specs.Pieces.{Piece}
 use Rattle.gql_doc.specs.Printed.{mark, dots, word, number, string, enclosed, printed_list, printed_value, printed_argument, printed_arguments, printed_directive, printed_directives, printed_type, printed_default, printed_variable, printed_variables, printed_alias, printed_condition, printed_selection, printed_selections, type_condition, operation_word, printed_name, printed_fragment, printed_definition}
 use Rattle.gql_doc.proofs.PrintedForms.{printed_Variable, printed_Int, printed_Text, printed_Bool, printed_Null, printed_Enum, printed_List, printed_Object, argument-roll, printed_Named, printed_ListType, printed_NonNull, printed_Field, printed_Spread, printed_Inline, field-roll, inline-roll}
 use Rattle.gql_doc.proofs.Words.{and_left, and_right, operation_type_named}
-use Rattle.gql_doc.proofs.Prints.{reprint, reprint_of, mark_piece, Prints, prints_token, prints_returns, prints_bind, prints_bind_by, prints_either, prints_never, prints_many, prints_some, printed_option, prints_optional, prints_listed}
+use Rattle.gql_doc.proofs.Prints.{reprint_of, mark_piece, Prints, prints_token, prints_returns, prints_bind, prints_bind_by, prints_either, prints_never, prints_many, prints_some, printed_option, prints_optional, prints_listed}
 use Rattle.gql_model.specs.declared.syntax.Literal.{Literal}
 use Rattle.gql_model.specs.declared.syntax.Literal.TheVariants as literal
 use Rattle.gql_model.specs.declared.syntax.TypeRef.{TypeRef}

@@ -1,5 +1,5 @@
 -- The parser's readers read the productions of the grammar, and stop where no document goes on.
-use Rattle.std.proofs.Common.{◌≡◌, ◌⊎◌, inl, inr, ℕ, zero, suc, Bool, true, false, ◌||◌, ◌&&◌, not, List, [], ◌∷◌, ◌++◌, Option, Some, None, length, Ok, Err, refl, sym, ap, subst, ◌∙◌, codes, arith}
+use Rattle.std.proofs.Common.{◌≡◌, inl, inr, ℕ, zero, suc, Bool, true, false, ◌||◌, ◌&&◌, not, List, [], ◌∷◌, ◌++◌, Option, Some, None, length, Ok, Err, refl, sym, ap, subst, ◌∙◌, codes, arith}
 use Rattle.std.proofs.lemmas.Bool.{eq-eqb}
 use Rattle.std.specs.Str.{bytes_eq}
 use Rattle.std.proofs.lemmas.Slice.Eq.{bytes_eq-Decides}
@@ -14,17 +14,15 @@ use Rattle.gql_doc.specs.Reading.{Reader, gives, next_is, take, pick, shut}
 use Rattle.gql_doc.specs.Reading as reading
 use Rattle.gql_doc.specs.StringValue.{string_value}
 use Rattle.gql_doc.specs.Marks.{is_mark, is_name, is_number, is_string, is_word, is_fragment_name, is_operation_type, is_opening, is_closing}
-use Rattle.gql_doc.specs.Nesting.{room_behind, taken}
+use Rattle.gql_doc.specs.Nesting.{room_behind}
 use Rattle.gql_doc.specs.declared.parser.Stop.TheVariants as stop
 use Rattle.gql_doc.proofs.Sets.{Set, no_tokens, marked, names, numbers, strings, all_tokens, union, only_if, has, disjoint, disjoint-has, has-union, or_left, or_right, is_mark-has, is_name-has, is_number-has, is_string-has}
 use Rattle.gql_doc.proofs.Predictive.{Begun, Predictive, returns-predictive, token-predictive, bind-predictive, bind_apart-predictive, pick-predictive, pick_first-predictive, other-predictive, shut-predictive, many-predictive, some-predictive, forbid-predictive, many_ends, false_true, pick_yes, pick_no, same_rest}
 use Rattle.gql_model.specs.declared.syntax.Literal.{Literal}
 use Rattle.gql_model.specs.declared.syntax.Literal.TheVariants as literal
-use Rattle.gql_model.specs.declared.syntax.Argument.{Argument, roll-Argument}
+use Rattle.gql_model.specs.declared.syntax.Argument.{roll-Argument}
 use Rattle.gql_model.specs.declared.syntax.TypeRef.{TypeRef}
 use Rattle.gql_model.specs.declared.syntax.TypeRef.TheVariants as type
-use Rattle.gql_model.specs.declared.syntax.DirectiveUse.{DirectiveUse}
-use Rattle.gql_model.specs.declared.syntax.VariableDef.{VariableDef}
 use Rattle.gql_model.specs.declared.syntax.Selection.{Selection}
 use Rattle.gql_model.specs.declared.syntax.Selection.TheVariants as selection
 use Rattle.gql_model.specs.declared.syntax.InlineNode.{roll-InlineNode}
@@ -268,8 +266,8 @@ list-predictive : {n : ℕ} {p q : Phrase Literal} {r : Reader Literal} (constan
     → Predictive (suc n) (suc n) (grammar.list_value p) (grammar.list_value q) (reading.list_value r) (marked 91) no_tokens false
 list-predictive constant item =
     bind-predictive (between-predictive true 91 93 (opens-predictive 91 bracket_opens)
-      (many-predictive reading.begins_value (value_first false) (λ t h. begins_value-has t ∙ value_first-all constant t h) (λ t h. sym (begins_value-has t) ∙ h) (value_apart constant) item)
-      (closes-predictive 93 refl bracket_closes) refl (value_fresh constant))
+    (many-predictive reading.begins_value (value_first false) (λ t h. begins_value-has t ∙ value_first-all constant t h) (λ t h. sym (begins_value-has t) ∙ h) (value_apart constant) item)
+    (closes-predictive 93 refl bracket_closes) refl (value_fresh constant))
     (λ list. returns-predictive (literal.List list.1 list.0)) refl
 
 argument-predictive : {n : ℕ} {p q : Phrase Literal} {r : Reader Literal} (constant : Bool) → Predictive n n p q r (value_first constant) no_tokens false
@@ -284,8 +282,8 @@ object-predictive : {n : ℕ} {p q : Phrase Literal} {r : Reader Literal} (const
     → Predictive (suc n) (suc n) (grammar.object_value p) (grammar.object_value q) (reading.object_value r) (marked 123) no_tokens false
 object-predictive constant value =
     bind-predictive (between-predictive true 123 125 (opens-predictive 123 brace_opens)
-      (many-predictive is_name names (λ t h. is_name-has t ∙ h) (λ t h. sym (is_name-has t) ∙ h) refl (argument-predictive constant value))
-      (closes-predictive 125 refl brace_closes) refl refl)
+    (many-predictive is_name names (λ t h. is_name-has t ∙ h) (λ t h. sym (is_name-has t) ∙ h) refl (argument-predictive constant value))
+    (closes-predictive 125 refl brace_closes) refl refl)
     (λ object. returns-predictive (literal.Object object.1 object.0)) refl
 
 -- an empty list and an empty object, behind their first mark
@@ -293,21 +291,75 @@ list_begun : (p : Phrase Literal) (t : Lexeme) → is_mark 91 t ≡ true → Beg
 unfolding a_token
 list_begun p t e =
     let last = a_token kind.Punctuator (93 ∷ []) in
-    record { more = last ∷ []; value = literal.List [] t.spot;
-      is = ((t.spot, []), record { front = t ∷ last ∷ []; back = []; whole = refl; back_is = (refl, refl);
-        front_is = (t, record { front = t ∷ []; back = last ∷ []; whole = refl; front_is = (refl, e);
-          back_is = ([], record { front = []; back = last ∷ []; whole = refl; front_is = refl;
-            back_is = (last, record { front = last ∷ []; back = []; whole = refl; front_is = (refl, mark_example 93); back_is = (refl, refl) }) }) }) }) }
+    record {
+      more = last ∷ [];
+      value = literal.List [] t.spot;
+      is = (
+        (t.spot, []),
+        record {
+          front = t ∷ last ∷ [];
+          back = [];
+          whole = refl;
+          back_is = (refl, refl);
+          front_is = (
+            t,
+            record {
+              front = t ∷ [];
+              back = last ∷ [];
+              whole = refl;
+              front_is = (refl, e);
+              back_is = (
+                [],
+                record {
+                  front = [];
+                  back = last ∷ [];
+                  whole = refl;
+                  front_is = refl;
+                  back_is = (last, record { front = last ∷ []; back = []; whole = refl; front_is = (refl, mark_example 93); back_is = (refl, refl) });
+                },
+              );
+            },
+          );
+        },
+      );
+    }
 
 object_begun : (p : Phrase Literal) (t : Lexeme) → is_mark 123 t ≡ true → Begun (grammar.object_value p) (t ∷ [])
 unfolding a_token
 object_begun p t e =
     let last = a_token kind.Punctuator (125 ∷ []) in
-    record { more = last ∷ []; value = literal.Object [] t.spot;
-      is = ((t.spot, []), record { front = t ∷ last ∷ []; back = []; whole = refl; back_is = (refl, refl);
-        front_is = (t, record { front = t ∷ []; back = last ∷ []; whole = refl; front_is = (refl, e);
-          back_is = ([], record { front = []; back = last ∷ []; whole = refl; front_is = refl;
-            back_is = (last, record { front = last ∷ []; back = []; whole = refl; front_is = (refl, mark_example 125); back_is = (refl, refl) }) }) }) }) }
+    record {
+      more = last ∷ [];
+      value = literal.Object [] t.spot;
+      is = (
+        (t.spot, []),
+        record {
+          front = t ∷ last ∷ [];
+          back = [];
+          whole = refl;
+          back_is = (refl, refl);
+          front_is = (
+            t,
+            record {
+              front = t ∷ [];
+              back = last ∷ [];
+              whole = refl;
+              front_is = (refl, e);
+              back_is = (
+                [],
+                record {
+                  front = [];
+                  back = last ∷ [];
+                  whole = refl;
+                  front_is = refl;
+                  back_is = (last, record { front = last ∷ []; back = []; whole = refl; front_is = (refl, mark_example 125); back_is = (refl, refl) });
+                },
+              );
+            },
+          );
+        },
+      );
+    }
 
 or_else : {A : Type 0} (a b : Bool) → (a || b) ≡ true → (a ≡ true → A) → (b ≡ true → A) → A
 or_else true b h f g = f refl
@@ -389,15 +441,15 @@ arguments-predictive : (constant : Bool) (n k : ℕ) → Predictive n n (grammar
 unfolding reading.arguments
 arguments-predictive constant n k = listed-predictive 40
     (bind-predictive (between-predictive false 40 41 (mark-predictive 40 refl refl)
-      (some-predictive is_name names (λ t h. is_name-has t ∙ h) (λ t h. sym (is_name-has t) ∙ h) refl (argument-predictive constant (value-predictive constant n k)))
-      (mark-predictive 41 refl refl) refl refl)
+    (some-predictive is_name names (λ t h. is_name-has t ∙ h) (λ t h. sym (is_name-has t) ∙ h) refl (argument-predictive constant (value-predictive constant n k)))
+    (mark-predictive 41 refl refl) refl refl)
     (λ all. returns-predictive all.1) refl)
 
 directive-predictive : (constant : Bool) (n k : ℕ) → Predictive n n (grammar.directive constant (suc n)) (grammar.directive constant k) (reading.directive constant n) (marked 64) (marked 40) false
 unfolding reading.directive
 directive-predictive constant n k =
     bind-predictive (mark-predictive 64 refl refl) (λ at. bind-predictive name-predictive (λ word. bind-predictive (arguments-predictive constant n k) (λ given.
-      returns-predictive (record { name = word.text; arguments = given; spot = at.spot })) refl) refl) refl
+    returns-predictive (record { name = word.text; arguments = given; spot = at.spot })) refl) refl) refl
 
 directives-predictive : (constant : Bool) (n k : ℕ) → Predictive n n (grammar.directives constant (suc n)) (grammar.directives constant k) (reading.directives constant n) (marked 64) (marks (64 ∷ 40 ∷ [])) true
 unfolding reading.directives
@@ -432,14 +484,42 @@ type_begun depth t e =
     let word = a_token kind.Name (codes "a") in
     let last = a_token kind.Punctuator (93 ∷ []) in
     let inner = type.Named word.text word.spot in
-    record { more = word ∷ last ∷ []; value = type.List inner;
-      is = ((t.spot, inner), record { front = t ∷ word ∷ last ∷ []; back = []; whole = refl; back_is = (refl, refl);
-        front_is = (t, record { front = t ∷ []; back = word ∷ last ∷ []; whole = refl; front_is = (refl, e);
-          back_is = (inner, record { front = word ∷ []; back = last ∷ []; whole = refl; front_is = by depth;
-            back_is = (last, record { front = last ∷ []; back = []; whole = refl; front_is = (refl, mark_example 93); back_is = (refl, refl) }) }) }) }) }
+    record {
+      more = word ∷ last ∷ [];
+      value = type.List inner;
+      is = (
+        (t.spot, inner),
+        record {
+          front = t ∷ word ∷ last ∷ [];
+          back = [];
+          whole = refl;
+          back_is = (refl, refl);
+          front_is = (
+            t,
+            record {
+              front = t ∷ [];
+              back = word ∷ last ∷ [];
+              whole = refl;
+              front_is = (refl, e);
+              back_is = (
+                inner,
+                record {
+                  front = word ∷ [];
+                  back = last ∷ [];
+                  whole = refl;
+                  front_is = by depth;
+                  back_is = (last, record { front = last ∷ []; back = []; whole = refl; front_is = (refl, mark_example 93); back_is = (refl, refl) });
+                },
+              );
+            },
+          );
+        },
+      );
+    }
   where
     named : grammar.named_type (a_token kind.Name (codes "a") ∷ []) (type.Named (codes "a") (record { line = 0; column = 0 }))
     named = (a_token kind.Name (codes "a"), record { front = a_token kind.Name (codes "a") ∷ []; back = []; whole = refl; front_is = (refl, refl); back_is = (refl, refl) })
+
     by : (d : ℕ) → grammar.type_ref d (a_token kind.Name (codes "a") ∷ []) (type.Named (codes "a") (record { line = 0; column = 0 }))
     by zero = (type.Named (codes "a") (record { line = 0; column = 0 }), record { front = a_token kind.Name (codes "a") ∷ []; back = []; whole = refl; front_is = named; back_is = inr (refl, refl) })
     by (suc d) = (type.Named (codes "a") (record { line = 0; column = 0 }), record { front = a_token kind.Name (codes "a") ∷ []; back = []; whole = refl; front_is = inl named; back_is = inr (refl, refl) })
@@ -487,15 +567,15 @@ variable_definition-predictive : (n k : ℕ) → Predictive n n (grammar.variabl
 unfolding reading.variable_definition
 variable_definition-predictive n k =
     bind-predictive (mark-predictive 36 refl refl) (λ dollar. bind-predictive name-predictive (λ word. bind-predictive (mark-predictive 58 refl refl) (λ _.
-      bind-predictive (type_ref-predictive n k) (λ kind. bind-predictive (optional-predictive 61 (default-predictive n k)) (λ default. bind-predictive (directives-predictive true n k) (λ used.
-        returns-predictive (record { name = word.text; kind = kind; default = default; directives = used; spot = dollar.spot })) refl) refl) refl) refl) refl) refl
+    bind-predictive (type_ref-predictive n k) (λ kind. bind-predictive (optional-predictive 61 (default-predictive n k)) (λ default. bind-predictive (directives-predictive true n k) (λ used.
+    returns-predictive (record { name = word.text; kind = kind; default = default; directives = used; spot = dollar.spot })) refl) refl) refl) refl) refl) refl
 
 variable_definitions-predictive : (n k : ℕ) → Predictive n n (grammar.variable_definitions (suc n)) (grammar.variable_definitions k) (reading.variable_definitions n) (marked 40) (marked 40) true
 unfolding reading.variable_definitions
 variable_definitions-predictive n k = listed-predictive 40
     (bind-predictive (between-predictive false 40 41 (mark-predictive 40 refl refl)
-      (some-predictive (is_mark 36) (marked 36) (λ t h. is_mark-has 36 t ∙ h) (λ t h. sym (is_mark-has 36 t) ∙ h) refl (variable_definition-predictive n k))
-      (mark-predictive 41 refl refl) refl refl)
+    (some-predictive (is_mark 36) (marked 36) (λ t h. is_mark-has 36 t ∙ h) (λ t h. sym (is_mark-has 36 t) ∙ h) refl (variable_definition-predictive n k))
+    (mark-predictive 41 refl refl) refl refl)
     (λ all. returns-predictive all.1) refl)
 
 -- ---- selections
@@ -560,12 +640,11 @@ no_name_no_fragment : (t : Lexeme) → has (marks (64 ∷ 123 ∷ [])) t ≡ tru
 no_name_no_fragment t h = and_none (is_name t) _ (is_name-has t ∙ disjoint-has (marks (64 ∷ 123 ∷ [])) names t refl h)
 
 module _ (n k : ℕ) (p q : Phrase (List Selection)) (r : Reader (List Selection)) (inner : Predictive n n p q r (marked 123) no_tokens false) where
-
   field-predictive : Predictive n n (grammar.field (suc n) p) (grammar.field k q) (reading.field n r) names (marks (123 ∷ 64 ∷ 40 ∷ 40 ∷ 58 ∷ [])) false
   unfolding reading.field
   field-predictive =
       bind-predictive name-predictive (λ first. bind-predictive (optional-predictive 58 aliased-predictive) (λ second. bind-predictive (arguments-predictive false n k) (λ given.
-        bind-predictive (directives-predictive false n k) (λ used. bind-predictive (listed-predictive 123 inner) (λ inside. returns-predictive _) refl) refl) refl) refl) refl
+      bind-predictive (directives-predictive false n k) (λ used. bind-predictive (listed-predictive 123 inner) (λ inside. returns-predictive _) refl) refl) refl) refl) refl
 
   spread-predictive : Predictive n n (grammar.spread (suc n)) (grammar.spread k) (reading.spread n) names (marks (64 ∷ 40 ∷ [])) false
   unfolding reading.spread
@@ -600,7 +679,7 @@ module _ (n k : ℕ) (p q : Phrase (List Selection)) (r : Reader (List Selection
   unfolding reading.any_selection
   selection-predictive = pick_first-predictive is_name is_name-has field-predictive
       (bind-predictive (mark-predictive 46 refl refl) (λ dots.
-        pick-predictive is_fragment_name names spread-predictive (inline-predictive dots.spot) spread_name (inline_no_name dots.spot) (λ t h. sym (is_name-has t) ∙ fragment_name_is_name t h)) refl) refl
+      pick-predictive is_fragment_name names spread-predictive (inline-predictive dots.spot) spread_name (inline_no_name dots.spot) (λ t h. sym (is_name-has t) ∙ fragment_name_is_name t h)) refl) refl
 
 begins_selection-has : (t : Lexeme) → reading.begins_selection t ≡ has (union names (marked 46)) t
 begins_selection-has t = (λ i. is_name-has t i || is_mark-has 46 t i) ∙ sym (has-union names (marked 46) t)
@@ -617,22 +696,80 @@ field_begun : (depth : ℕ) (sets : Phrase (List Selection)) → grammar.any_sel
 unfolding a_token a_word a_field
 field_begun depth sets =
     let word = a_word (codes "a") in
-    inl (word, record { front = word ∷ []; back = []; whole = refl; front_is = (refl, refl);
-      back_is = (None, record { front = []; back = []; whole = refl; front_is = inr (refl, refl);
-        back_is = ([], record { front = []; back = []; whole = refl; front_is = inr (refl, refl);
-          back_is = ([], record { front = []; back = []; whole = refl; front_is = refl;
-            back_is = ([], record { front = []; back = []; whole = refl; front_is = inr (refl, refl); back_is = (refl, refl) }) }) }) }) })
+    inl (
+      word,
+      record {
+        front = word ∷ [];
+        back = [];
+        whole = refl;
+        front_is = (refl, refl);
+        back_is = (
+          None,
+          record {
+            front = [];
+            back = [];
+            whole = refl;
+            front_is = inr (refl, refl);
+            back_is = (
+              [],
+              record {
+                front = [];
+                back = [];
+                whole = refl;
+                front_is = inr (refl, refl);
+                back_is = (
+                  [],
+                  record {
+                    front = [];
+                    back = [];
+                    whole = refl;
+                    front_is = refl;
+                    back_is = ([], record { front = []; back = []; whole = refl; front_is = inr (refl, refl); back_is = (refl, refl) });
+                  },
+                );
+              },
+            );
+          },
+        );
+      },
+    )
 
 set_begun : (t : Lexeme) → is_mark 123 t ≡ true → Begun (grammar.selection_set 1) (t ∷ [])
 set_begun t e =
     let word = a_word (codes "a") in
     let last = a_token kind.Punctuator (125 ∷ []) in
-    record { more = word ∷ last ∷ []; value = (t.spot, a_field ∷ []);
-      is = (t, record { front = t ∷ []; back = word ∷ last ∷ []; whole = refl; front_is = (refl, e);
-        back_is = (a_field ∷ [], record { front = word ∷ []; back = last ∷ []; whole = refl;
-          front_is = (a_field, record { front = word ∷ []; back = []; whole = refl; front_is = field_begun 0 _;
-            back_is = ([], record { front = []; back = []; whole = refl; front_is = refl; back_is = (refl, refl) }) });
-          back_is = (last, record { front = last ∷ []; back = []; whole = refl; front_is = (refl, mark_example 125); back_is = (refl, refl) }) }) }) }
+    record {
+      more = word ∷ last ∷ [];
+      value = (t.spot, a_field ∷ []);
+      is = (
+        t,
+        record {
+          front = t ∷ [];
+          back = word ∷ last ∷ [];
+          whole = refl;
+          front_is = (refl, e);
+          back_is = (
+            a_field ∷ [],
+            record {
+              front = word ∷ [];
+              back = last ∷ [];
+              whole = refl;
+              front_is = (
+                a_field,
+                record {
+                  front = word ∷ [];
+                  back = [];
+                  whole = refl;
+                  front_is = field_begun 0 _;
+                  back_is = ([], record { front = []; back = []; whole = refl; front_is = refl; back_is = (refl, refl) });
+                },
+              );
+              back_is = (last, record { front = last ∷ []; back = []; whole = refl; front_is = (refl, mark_example 125); back_is = (refl, refl) });
+            },
+          );
+        },
+      );
+    }
 
 set_begun_none : Begun (grammar.selection_set 1) []
 set_begun_none =
@@ -656,9 +793,9 @@ set_from : (n k : ℕ) → Predictive n n (grammar.selection_set (suc n)) (gramm
     → Predictive (suc n) (suc n) (grammar.selection_set (suc (suc n))) (grammar.selection_set (suc k)) (reading.between 123 (reading.some reading.begins_selection (reading.any_selection n (reading.selections n))) 125) (marked 123) no_tokens false
 set_from n k set =
     between-predictive false 123 125 (opens-predictive 123 brace_opens)
-      (some-predictive reading.begins_selection (union names (marked 46)) (λ t h. begins_selection-has t ∙ h) (λ t h. sym (begins_selection-has t) ∙ h) refl
-        (selection-predictive n k (grammar.selections (suc n)) (grammar.selections k) (reading.selections n) (selections_from n k set)))
-      (closes-predictive 125 refl brace_closes) refl refl
+    (some-predictive reading.begins_selection (union names (marked 46)) (λ t h. begins_selection-has t ∙ h) (λ t h. sym (begins_selection-has t) ∙ h) refl
+    (selection-predictive n k (grammar.selections (suc n)) (grammar.selections k) (reading.selections n) (selections_from n k set)))
+    (closes-predictive 125 refl brace_closes) refl refl
 
 selection_set-predictive : (n k : ℕ) → Predictive n n (grammar.selection_set (suc n)) (grammar.selection_set k) (reading.selection_set n) (marked 123) no_tokens false
 unfolding reading.selection_set reading.selections
@@ -692,13 +829,13 @@ operation-predictive : (n k : ℕ) → Predictive n n (grammar.operation_definit
 unfolding reading.operation_definition
 operation-predictive n k =
     bind-predictive (word-predictive is_operation_type (a_word (codes "query")) query_is type_is_name) (λ kind. bind-predictive name_optional-predictive (λ word. bind-predictive (variable_definitions-predictive n k) (λ variables.
-      bind-predictive (directives-predictive false n k) (λ used. bind-predictive (selections-predictive n k) (λ inside. returns-predictive _) refl) refl) refl) refl) refl
+    bind-predictive (directives-predictive false n k) (λ used. bind-predictive (selections-predictive n k) (λ inside. returns-predictive _) refl) refl) refl) refl) refl
 
 fragment-predictive : (n k : ℕ) → Predictive n n (grammar.fragment_definition (suc n)) (grammar.fragment_definition k) (reading.fragment_definition n) names no_tokens false
 unfolding reading.fragment_definition
 fragment-predictive n k =
     bind-predictive (word-predictive (is_word (codes "fragment")) (a_word (codes "fragment")) fragment_is (word_is_name (codes "fragment"))) (λ _. bind-predictive (word-predictive is_fragment_name (a_word (codes "a")) a_word_is fragment_name_is_name) (λ word.
-      bind-predictive on-predictive (λ condition. bind-predictive (directives-predictive false n k) (λ used. bind-predictive (selections-predictive n k) (λ inside. returns-predictive _) refl) refl) refl) refl) refl
+    bind-predictive on-predictive (λ condition. bind-predictive (directives-predictive false n k) (λ used. bind-predictive (selections-predictive n k) (λ inside. returns-predictive _) refl) refl) refl) refl) refl
 
 operation_first : (k : ℕ) (t : Lexeme) (ts : List Lexeme) (a : Definition) → grammar.operation_definition k (t ∷ ts) a → is_operation_type t ≡ true
 operation_first k = first_bind is_operation_type (token is_operation_type) _ (one_token is_operation_type) (no_token is_operation_type)
@@ -744,7 +881,7 @@ some_whole : (n : ℕ) (tokens rest : List Lexeme) (all : List Definition) (b : 
 some_whole n tokens rest all true e h =
     let one = definition-predictive n n in
     nothing_next rest (many_ends (grammar.any_definition (suc n)) (reading.any_definition n) reading.is_any n one.found one.stopped (λ a x. false_true (one.solid a x)) one.begun one.local (length tokens) tokens rest all (omega arith)
-      (sym (pick_yes reading.is_any (reading.many reading.is_any (reading.any_definition n)) (λ ts. Err (stop.Unexpected, ts)) tokens e) ∙ h))
+    (sym (pick_yes reading.is_any (reading.many reading.is_any (reading.any_definition n)) (λ ts. Err (stop.Unexpected, ts)) tokens e) ∙ h))
 some_whole n tokens rest all false e h = let no = sym (pick_no reading.is_any (reading.many reading.is_any (reading.any_definition n)) (λ ts. Err (stop.Unexpected, ts)) tokens e) ∙ h in absurd cc
 
 document_by : (n : ℕ) (tokens rest : List Lexeme) (it : Document) (x : reading.Reading (List Definition)) → reading.some reading.is_any (reading.any_definition n) tokens ≡ x

@@ -1,5 +1,5 @@
 -- Sets of tokens, and which have none in common.
-use Rattle.std.proofs.Common.{◌≡◌, ◌⊎◌, inl, inr, ℕ, Bool, true, false, ◌||◌, ◌&&◌, not, eqb, List, [], ◌∷◌, ◌++◌, refl, sym, ap, subst, ◌∙◌}
+use Rattle.std.proofs.Common.{◌≡◌, ◌⊎◌, inl, inr, ℕ, Bool, true, false, ◌||◌, ◌&&◌, not, eqb, List, [], ◌∷◌, ◌++◌, refl, sym, ap, ◌∙◌}
 use Rattle.std.proofs.lemmas.Bool.{eqb-true}
 use Rattle.gql_lex.specs.Tokens.{Lexeme}
 use Rattle.gql_doc.specs.Marks.{is_mark, is_mark_of, is_name, is_name_kind, is_number, is_number_kind, is_string, is_string_kind}
@@ -94,8 +94,9 @@ none_among-among : (bytes marks : List ℕ) (byte : ℕ) → none_among bytes ma
 none_among-among [] marks byte none h = cc
 none_among-among (first ∷ bytes) marks byte none h =
     elim (or_cases (eqb byte first) (among bytes byte) h) [
-      inl e ↦ ap (among marks) (eqb-true byte first e) ∙ not_true (among marks first) (and_left (not (among marks first)) (none_among bytes marks) none)
-    | inr e ↦ none_among-among bytes marks byte (and_right (not (among marks first)) (none_among bytes marks) none) e ]
+      | inl e ↦ ap (among marks) (eqb-true byte first e) ∙ not_true (among marks first) (and_left (not (among marks first)) (none_among bytes marks) none)
+      | inr e ↦ none_among-among bytes marks byte (and_right (not (among marks first)) (none_among bytes marks) none) e
+    ]
 
 abbrev apart : Set → Set → Bool
 apart s t = none_among s.marks t.marks && (not (s.names && t.names) && (not (s.numbers && t.numbers) && not (s.strings && t.strings)))

@@ -2,7 +2,7 @@
 --
 -- A number bounds how deep selection sets, list values, object values and list types stand in one another, so that the
 -- definitions end by their form. A document is one for any such number.
-use Rattle.std.specs.Prelude.{◌≡◌, ℕ, zero, suc, ◌==◌, if◌then◌else◌, Bool, true, false, List, [], ◌∷◌, ◌++◌, Option, Some, None, option_map, codes}
+use Rattle.std.specs.Prelude.{ℕ, zero, suc, if◌then◌else◌, Bool, true, false, List, [], Option, Some, None, codes}
 use Rattle.std.specs.Str.{bytes_eq}
 use Rattle.gql_tree.specs.declared.delivery.Spot.{Spot}
 use Rattle.gql_lex.specs.Tokens.{Lexeme}
@@ -16,15 +16,12 @@ use Rattle.gql_model.specs.declared.syntax.TypeRef.{TypeRef}
 use Rattle.gql_model.specs.declared.syntax.TypeRef.TheVariants as type
 use Rattle.gql_model.specs.declared.syntax.DirectiveUse.{DirectiveUse}
 use Rattle.gql_model.specs.declared.syntax.VariableDef.{VariableDef}
-use Rattle.gql_model.specs.declared.syntax.SpreadNode.{SpreadNode}
 use Rattle.gql_model.specs.declared.syntax.FieldNode.{roll-FieldNode}
 use Rattle.gql_model.specs.declared.syntax.InlineNode.{roll-InlineNode}
 use Rattle.gql_model.specs.declared.syntax.Selection.{Selection}
 use Rattle.gql_model.specs.declared.syntax.Selection.TheVariants as selection
 use Rattle.gql_model.specs.declared.syntax.OperationKind.{OperationKind}
 use Rattle.gql_model.specs.declared.syntax.OperationKind.TheVariants as operation
-use Rattle.gql_model.specs.declared.syntax.OperationDef.{OperationDef}
-use Rattle.gql_model.specs.declared.syntax.FragmentDef.{FragmentDef}
 use Rattle.gql_model.specs.declared.syntax.Definition.{Definition}
 use Rattle.gql_model.specs.declared.syntax.Definition.TheVariants as definition
 use Rattle.gql_model.specs.declared.syntax.Document.{Document}

@@ -1,5 +1,5 @@
 -- What a token is to the grammar.
-use Rattle.std.specs.Prelude.{ℕ, ◌==◌, nat_eq, ◌||◌, ◌&&◌, not, Bool, true, false, List, [], ◌∷◌, codes}
+use Rattle.std.specs.Prelude.{ℕ, ◌==◌, ◌||◌, ◌&&◌, not, Bool, true, false, List, [], ◌∷◌, codes}
 use Rattle.std.specs.Str.{bytes_eq}
 use Rattle.gql_lex.specs.Tokens.{Lexeme}
 use Rattle.gql_lex.specs.declared.token.TokenKind.{TokenKind}

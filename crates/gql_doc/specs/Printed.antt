@@ -1,7 +1,5 @@
 -- How a document is printed: its tokens, as the grammar reads them, with one space between two.
 use Rattle.std.specs.Prelude.{◌≡◌, ℕ, Bool, true, false, List, [], ◌∷◌, ◌++◌, flat_map, Option, Some, None, codes}
-use Rattle.gql_lex.specs.Tokens.{Lexeme}
-use Rattle.gql_lex.specs.declared.token.TokenKind.{TokenKind}
 use Rattle.gql_lex.specs.declared.token.TokenKind.TheVariants as kind
 use Rattle.gql_doc.specs.Quoting.{quoted_text}
 use Rattle.gql_doc.specs.Pieces.{Piece, spaced}

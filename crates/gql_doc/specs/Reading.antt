@@ -1,7 +1,7 @@
 -- What the parser's own functions read from left to right. No public clause mentions this: documents are what Grammar says.
 --
 -- A reader looks at tokens, the next one first, and gives a value and the tokens behind it, or where it stops and why.
-use Rattle.std.specs.Prelude.{◌≡◌, ℕ, zero, suc, ◌||◌, if◌then◌else◌, Bool, true, false, List, [], ◌∷◌, ◌++◌, length, Option, Some, None, Result, Ok, Err, codes}
+use Rattle.std.specs.Prelude.{◌≡◌, ℕ, zero, suc, ◌||◌, if◌then◌else◌, Bool, true, false, List, [], ◌∷◌, length, Option, Some, None, Result, Ok, Err, codes}
 use Rattle.gql_tree.specs.declared.delivery.Spot.{Spot}
 use Rattle.gql_lex.specs.Tokens.{Lexeme}
 use Rattle.gql_doc.specs.StringValue.{string_value}
@@ -16,14 +16,11 @@ use Rattle.gql_model.specs.declared.syntax.TypeRef.{TypeRef}
 use Rattle.gql_model.specs.declared.syntax.TypeRef.TheVariants as type
 use Rattle.gql_model.specs.declared.syntax.DirectiveUse.{DirectiveUse}
 use Rattle.gql_model.specs.declared.syntax.VariableDef.{VariableDef}
-use Rattle.gql_model.specs.declared.syntax.SpreadNode.{SpreadNode}
 use Rattle.gql_model.specs.declared.syntax.FieldNode.{roll-FieldNode}
 use Rattle.gql_model.specs.declared.syntax.InlineNode.{roll-InlineNode}
 use Rattle.gql_model.specs.declared.syntax.Selection.{Selection}
 use Rattle.gql_model.specs.declared.syntax.Selection.TheVariants as selection
 use Rattle.gql_model.specs.declared.syntax.OperationKind.TheVariants as operation
-use Rattle.gql_model.specs.declared.syntax.OperationDef.{OperationDef}
-use Rattle.gql_model.specs.declared.syntax.FragmentDef.{FragmentDef}
 use Rattle.gql_model.specs.declared.syntax.Definition.{Definition}
 use Rattle.gql_model.specs.declared.syntax.Definition.TheVariants as definition
 use Rattle.gql_model.specs.declared.syntax.Document.{Document}

@@ -21,11 +21,11 @@ mod quoted_string;
 mod refusal;
 mod selections;
 mod string_token;
+#[cfg(test)]
+mod tests;
 mod tokens;
 mod values;
 mod variables;
-#[cfg(test)]
-mod tests;
 
 pub use laws::{a_printed_document_reads_back, a_printed_string_reads_back};
 pub use parsing::parse;

@@ -58,5 +58,6 @@ pub(crate) fn is_fragment_name(token: &Token<'_>) -> bool
 pub(crate) fn is_operation_type(token: &Token<'_>) -> bool
     ensures { result ≡ is_operation_type (lexeme token.now) }
 {
-    is_name(token) && (token.text == "query" || token.text == "mutation" || token.text == "subscription")
+    is_name(token)
+        && (token.text == "query" || token.text == "mutation" || token.text == "subscription")
 }

@@ -234,11 +234,7 @@ impl<'a> Parser<'a> {
         ensures ok { OnOk result (holds ≡ true) }
         ensures err { IfErr result (λ why. (why ≡ stop.Unexpected) × (holds ≡ false)) }
     {
-        if holds {
-            Ok(())
-        } else {
-            Err(Stop::Unexpected)
-        }
+        if holds { Ok(()) } else { Err(Stop::Unexpected) }
     }
 
     /// The text of a token, where there is one.

@@ -1,10 +1,4 @@
-use Rattle.std.proofs.Common.{◌≡◌, ◌⊎◌, inl, inr, map, Ok, Err, subst, sym, ap, ◌∙◌, arith}
-use Rattle.gql_lex.specs.Tokens.{lexeme}
-use Rattle.gql_doc.specs.Answer.{Answers}
-use Rattle.gql_doc.specs.Nesting.{limit}
-use Rattle.gql_doc.specs.Outcomes.{outcome}
-use Rattle.gql_doc.specs.Reading.{document}
-use Rattle.gql_doc.proofs.Parsed.{outcome-answers, outcome-is, Answers-either, is-either}
+use Rattle.gql_doc.proofs.Parsed.{Answers-either, is-either}
 use Rattle.gql_doc.proofs.parsing.parse.Goals as goal
 
 pub returns-clause-answer : goal.returns-clause-answer

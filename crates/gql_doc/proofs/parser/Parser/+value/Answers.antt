@@ -2,7 +2,7 @@ use Rattle.std.proofs.Common.{◌∙◌, sym}
 use Rattle.std.proofs.lemmas.Result.{err_from_is_err_and}
 use Rattle.gql_doc.specs.Left.{left}
 use Rattle.gql_doc.specs.Marks.{is_name}
-use Rattle.gql_doc.specs.Reading.{many, value, argument, begins_value}
+use Rattle.gql_doc.specs.Reading.{value, argument, begins_value}
 use Rattle.gql_doc.proofs.Loops.{with_front-turn, with_front-stop, with_front-end, with_front-last}
 use Rattle.gql_doc.proofs.parser.Parser.+value.Goals as goal
 

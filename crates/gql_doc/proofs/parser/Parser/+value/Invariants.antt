@@ -1,4 +1,4 @@
-use Rattle.std.proofs.Common.{◌≡◌, ◌+◌, ◌-◌, ◌*◌, length}
+use Rattle.std.proofs.Common.{◌≡◌, ◌+◌, ◌-◌, ◌*◌}
 use Rattle.gql_doc.specs.Left.{left}
 use Rattle.gql_doc.specs.Marks.{is_name}
 use Rattle.gql_doc.specs.Reading.{many, many_at, begins_value, value, argument}
