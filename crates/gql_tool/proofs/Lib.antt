@@ -30,6 +30,7 @@ mod Ids
 mod Judged
 mod Kept
 mod Numbers
+mod Only
 mod Pieces
 mod Places
 mod Reading
@@ -42,3 +43,4 @@ pub mod Spots
 mod TableTexts
 mod Texts
 mod Understood
+mod Written

@@ -35,7 +35,7 @@ pub some_map : {A B : Type 0} (f : A → B) (o : Option A) (y : B) → option_ma
 some_map f None y is = absurd (cc)
 some_map f (Some x) y is = (x, refl, cc)
 
-both_true : (a b : Bool) → a && b ≡ true → (a ≡ true) × (b ≡ true)
+pub both_true : (a b : Bool) → a && b ≡ true → (a ≡ true) × (b ≡ true)
 both_true true b h = (refl, h)
 both_true false b h = absurd (cc)
 

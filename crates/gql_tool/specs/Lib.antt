@@ -17,3 +17,4 @@ pub mod LocalClient
 pub mod Served
 pub mod Handed
 pub mod Stages
+pub mod Written

@@ -8,6 +8,10 @@ ghost use Rattle.gql_tree.specs.Same.{SameFlat};
 ghost use Rattle.gql_tree.specs.Merged.{IsMerged};
 ghost use Rattle.gql_model.specs.Plain.{plain, kept};
 ghost use Rattle.gql_tool.specs.declared.shape.HeroDocument.{HeroDocument};
+ghost use Rattle.gql_model.specs.Sample as sample;
+ghost use Rattle.gql_model.specs.declared.syntax.Document.{Document};
+ghost use Rattle.gql_tool.specs.Shape.{hero_of};
+ghost use Rattle.gql_tool.specs.Written.{IsWritten, plain_hero, deferred_hero, bubbling_hero};
 ghost use Rattle.gql_tool.specs.declared.tables.HeroTables.{HeroTables};
 ghost use Rattle.gql_tool.specs.declared.request.Request.TheVariants.{Built};
 ghost use Rattle.gql_tool.specs.Local.{Judged, regions};
@@ -26,4 +30,17 @@ pub fn a_response_without_failures_is_plain()
         → Judged vars schema tables document (Built t d)
         → IsMerged (regions t d) value faults []
         → (let r = plain (service t) (nodes_of d) query in kept value faults ≡ kept (value_of r.outcome) r.faults) }
+{}
+
+/// The documents that are executed are the queries of the hero, written as documents.
+pub fn executed_documents()
+    ensures only { (it : Document) → (hero : HeroDocument) → hero_of it ≡ Some hero → IsWritten it hero }
+    ensures all { (it : Document) → (hero : HeroDocument) → IsWritten it hero → hero_of it ≡ Some hero }
+{}
+
+/// The operations that worked queries of the hero are.
+pub fn worked_documents()
+    ensures plain { nodes_of plain_hero ≡ sample.plain }
+    ensures deferred { nodes_of deferred_hero ≡ sample.one_deferred }
+    ensures bubbling { nodes_of bubbling_hero ≡ sample.bubbling }
 {}
