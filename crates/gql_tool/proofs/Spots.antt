@@ -10,7 +10,7 @@ use Rattle.gql_lex.specs.TokenPlaces.{IsPlaceIn}
 use Rattle.gql_lex.proofs.TokenPlaces.{tokens_stand}
 use Rattle.gql_doc.specs.StringValue.{string_value}
 use Rattle.gql_doc.specs.Marks.{is_string}
-use Rattle.gql_doc.proofs.Values.{values-utf8}
+use Rattle.gql_doc.proofs.Meant.{values-utf8}
 use Rattle.gql_doc.specs.Answer.{Is, most_bytes}
 use Rattle.gql_model.specs.declared.syntax.Document.{Document}
 use Rattle.gql_tool.specs.declared.shape.Deferred.{Deferred}
