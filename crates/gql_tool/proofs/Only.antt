@@ -6,7 +6,7 @@ use Rattle.std.specs.Str.{bytes_eq}
 use Rattle.std.proofs.lemmas.Bool.Decides.{nat_tests}
 use Rattle.std.proofs.lemmas.Slice.Eq.{bytes_eq-Decides}
 use Rattle.gql_tree.specs.declared.Spot.{Spot}
-use Rattle.gql_model.specs.declared.syntax.Literal.{Literal, out-Literal, roll-Literal, roll-out-Literal}
+use Rattle.gql_model.specs.declared.syntax.Literal.{out-Literal, roll-Literal, roll-out-Literal}
 use Rattle.gql_model.specs.declared.syntax.Literal.TheOpen.{Literal-F}
 use Rattle.gql_model.specs.declared.syntax.Literal.TheVariants.{rolls-Text}
 use Rattle.gql_model.specs.declared.syntax.Literal.TheVariants as literal
@@ -16,8 +16,8 @@ use Rattle.gql_model.specs.declared.syntax.Selection.{Selection, out-Selection, 
 use Rattle.gql_model.specs.declared.syntax.Selection.TheOpen.{Selection-F}
 use Rattle.gql_model.specs.declared.syntax.Selection.TheVariants.{rolls-Field, rolls-Inline}
 use Rattle.gql_model.specs.declared.syntax.Selection.TheVariants as selection
-use Rattle.gql_model.specs.declared.syntax.FieldNode.{FieldNode, out-FieldNode, roll-FieldNode, roll-out-FieldNode}
-use Rattle.gql_model.specs.declared.syntax.InlineNode.{InlineNode, out-InlineNode, roll-InlineNode, roll-out-InlineNode}
+use Rattle.gql_model.specs.declared.syntax.FieldNode.{out-FieldNode, roll-FieldNode, roll-out-FieldNode}
+use Rattle.gql_model.specs.declared.syntax.InlineNode.{out-InlineNode, roll-InlineNode, roll-out-InlineNode}
 use Rattle.gql_model.specs.declared.syntax.OperationKind.{OperationKind}
 use Rattle.gql_model.specs.declared.syntax.OperationKind.TheVariants as kind
 use Rattle.gql_model.specs.declared.syntax.OperationDef.{OperationDef}
@@ -29,9 +29,8 @@ use Rattle.gql_tool.specs.declared.shape.LeafName.TheVariants.{Id, Name, Age, Bo
 use Rattle.gql_tool.specs.declared.shape.Leaf.{Leaf}
 use Rattle.gql_tool.specs.declared.shape.Deferred.{Deferred}
 use Rattle.gql_tool.specs.declared.shape.HeroDocument.{HeroDocument}
-use Rattle.gql_tool.specs.Shape.{AnySelection, Field, Inline, AnyArgument, AnyValue, leaf_name, is_plain, leaf_in, leaf_at, leaf_of, leaves_of, behind_leaves, string_in, label_in, label_of, defer_of, deferred_by, deferred_in, deferred_at, deferred_of, ending_of, hero_by, hero_in, hero_at, root_of, is_query, is_plain_query, operation_in, document_of, once_each, hero_of}
+use Rattle.gql_tool.specs.Shape.{AnySelection, Field, Inline, AnyValue, leaf_name, is_plain, leaf_in, leaf_at, leaf_of, leaves_of, behind_leaves, string_in, label_in, label_of, defer_of, deferred_by, deferred_in, deferred_at, deferred_of, ending_of, hero_by, hero_in, hero_at, root_of, is_query, is_plain_query, operation_in, document_of, once_each, hero_of}
 use Rattle.gql_tool.specs.Operation.{name_of}
-use Rattle.gql_tool.specs.Hero.{EachOnce}
 use Rattle.gql_tool.specs.Written.{Places, written_leaf, written_label, written_deferred, written_hero, written, HasLeaf, HasDeferred, HasLeaves, IsWritten}
 use Rattle.gql_tool.proofs.Reading.{some_if, some_then, some_map, both_true, hero_of-once}
 use Rattle.gql_tool.proofs.Written.{leaf_layer, first, inline_layer, hero_layer}

@@ -1,8 +1,7 @@
 -- A query of the hero that is written as a document is found in it.
-use Rattle.std.proofs.Common.{◌≡◌, refl, sym, ap, ◌∙◌, subst, ℕ, ◌+◌, ◌≤◌, Bool, true, cond, List, [], ◌∷◌, ◌++◌, map, length, drop, Option, Some, None, arith}
+use Rattle.std.proofs.Common.{◌≡◌, refl, ap, ◌∙◌, ℕ, ◌+◌, ◌≤◌, Bool, true, cond, List, [], ◌∷◌, ◌++◌, map, length, drop, Option, Some, None, arith}
 use Rattle.std.specs.Prelude.{nat_le, ◌&&◌, option_map, option_and_then, codes}
 use Rattle.std.proofs.lemmas.Bool.Decides.{nat_tests}
-use Rattle.gql_tree.specs.declared.Spot.{Spot}
 use Rattle.gql_model.specs.declared.syntax.Literal.TheVariants.{outs-Text}
 use Rattle.gql_model.specs.declared.syntax.Literal.TheVariants as literal
 use Rattle.gql_model.specs.declared.syntax.Argument.{out-roll-Argument}
@@ -16,7 +15,7 @@ use Rattle.gql_tool.specs.declared.shape.LeafName.TheVariants.{Id, Name, Age, Bo
 use Rattle.gql_tool.specs.declared.shape.Leaf.{Leaf}
 use Rattle.gql_tool.specs.declared.shape.Deferred.{Deferred}
 use Rattle.gql_tool.specs.declared.shape.HeroDocument.{HeroDocument}
-use Rattle.gql_tool.specs.Shape.{AnySelection, Field, Inline, AnyArgument, AnyValue, leaf_name, leaf_in, leaf_at, leaf_of, leaves_of, behind_leaves, string_in, label_in, label_of, deferred_by, deferred_in, deferred_at, deferred_of, ending_of, hero_by, hero_in, hero_at, root_of, times, deferred_leaves_of, stands_once, once_each, hero_of}
+use Rattle.gql_tool.specs.Shape.{Field, Inline, AnyArgument, AnyValue, leaf_name, leaf_in, leaf_at, leaf_of, leaves_of, behind_leaves, string_in, label_in, label_of, deferred_by, deferred_in, deferred_at, deferred_of, ending_of, hero_by, hero_in, hero_at, root_of, times, deferred_leaves_of, stands_once, once_each, hero_of}
 use Rattle.gql_tool.specs.Operation.{name_of}
 use Rattle.gql_tool.specs.Hero.{EachOnce}
 use Rattle.gql_tool.specs.Written.{Places, written_leaf, written_label, written_deferred, written_hero, written, HasLeaf, HasDeferred, HasLeaves}
