@@ -1,5 +1,9 @@
 //! Strings whose values are known, by hand.
 
+mod documents;
+mod hostile;
+mod parts;
+
 use crate::string_value;
 use gql_lex::Lexer;
 use gql_tree::Text;

@@ -1,0 +1,174 @@
+//! Long texts, deep ones, and each beginning of a document, by hand.
+
+use crate::tests::documents::shown;
+use crate::{ParseRefusal, parse};
+use gql_lex::{LexRefusal, Lexer};
+use gql_tree::Spot;
+use std::alloc::Global;
+use std::test::Fail;
+
+/// A text of `front`, then a piece so many times, then `back`.
+fn repeated(
+    alloc: Global,
+    front: &str,
+    piece: &str,
+    count: usize,
+    back: &str,
+) -> Result<String, Fail> {
+    let middle = piece.repeat(alloc, count)?;
+    Ok(format!(in alloc; "{front}{middle}{back}")?)
+}
+
+#[test]
+fn long_texts(rt: HostRuntime) -> Result<(), Fail> {
+    let alloc = rt.alloc();
+    let table = [
+        ("", "#", 1_048_576, "", "Unexpected 1:1048577"),
+        ("", " ", 1_048_576, "", "Unexpected 1:1048577"),
+        ("", "\n", 1_048_576, "", "Unexpected 1048577:1"),
+        ("{a}", " ", 1_048_573, "", "ok"),
+        ("{a}", " ", 1_048_574, "", "TooLong"),
+    ];
+    for (front, piece, count, back, want) in table {
+        let text = repeated(alloc, front, piece, count, back)?;
+        let got = shown(alloc, text.as_str())?;
+        assert_eq!(rt; got.as_str(), want, "{front}{piece}");
+    }
+    Ok(())
+}
+
+#[test]
+fn many_tokens(rt: HostRuntime) -> Result<(), Fail> {
+    let alloc = rt.alloc();
+    let table = [
+        ("", "{", 1_048_576, "", "Unexpected 1:2"),
+        ("", "\"", 1_048_576, "", "Unexpected 1:1"),
+        ("", "{a", 65_536, "", "TooDeep 1:257"),
+        ("{a(b:[", "\"", 60_004, "", "OpenString 1:60007"),
+        ("{", "a ", 20_000, "}", "ok"),
+        ("", "{a}", 20_000, "", "ok"),
+    ];
+    for (front, piece, count, back, want) in table {
+        let text = repeated(alloc, front, piece, count, back)?;
+        let got = shown(alloc, text.as_str())?;
+        assert_eq!(rt; got.as_str(), want, "{front}{piece}");
+    }
+    Ok(())
+}
+
+/// `front`, then so many openings, `inside`, as many closings and `back`.
+fn nested(
+    alloc: Global,
+    opening: (&str, &str),
+    inside: &str,
+    closing: (&str, &str),
+    count: usize,
+) -> Result<String, Fail> {
+    let middle = repeated(alloc, opening.0, opening.1, count, inside)?;
+    repeated(alloc, middle.as_str(), closing.0, count, closing.1)
+}
+
+#[test]
+fn deep_texts(rt: HostRuntime) -> Result<(), Fail> {
+    let alloc = rt.alloc();
+    let table = [
+        (("", "{a"), "", ("}", ""), 128, "TooDeep 1:257"),
+        (("{", "...{"), "a", ("}", "}"), 127, "TooDeep 1:513"),
+        (("{a(b:", "["), "", ("]", ")}"), 127, "TooDeep 1:133"),
+        (("{a(b:", "{c:"), "1", ("}", ")}"), 127, "TooDeep 1:387"),
+        (("{a{b(c:{d:", "["), "", ("]", "})}}"), 125, "TooDeep 1:136"),
+        (("query($a:", "["), "T", ("]", "){b}"), 128, "TooDeep 1:138"),
+        (
+            ("query($a:T=", "["),
+            "",
+            ("]", "){b}"),
+            128,
+            "TooDeep 1:140",
+        ),
+        (
+            ("query@a(b:", "{c:"),
+            "d",
+            ("}", "){e}"),
+            128,
+            "TooDeep 1:395",
+        ),
+    ];
+    for (opening, inside, closing, count, want) in table {
+        let deepest = nested(alloc, opening, inside, closing, count)?;
+        let got = shown(alloc, deepest.as_str())?;
+        assert_eq!(rt; got.as_str(), "ok", "{deepest}");
+        let deeper = nested(alloc, opening, inside, closing, count.saturating_add(1))?;
+        let got = shown(alloc, deeper.as_str())?;
+        assert_eq!(rt; got.as_str(), want, "{deeper}");
+    }
+    Ok(())
+}
+
+/// A document in one line with each production but comments.
+fn rich() -> &'static str {
+    "query Q($v:[T!]!=[1]@d,$w:I=\"x\\n\"){a:b(c:$v,d:{e:[true,null,-1]})@d(x:E){...F@e ...on T{c}...@f{d(s:\"\"\"t\"\"\")}}}fragment F on T@g{e}mutation M{f}subscription{g}{h}"
+}
+
+/// Where the last token begins that begins before the column `end` of a text in one line.
+fn last_token(text: &str, end: u32) -> Result<u32, Fail> {
+    if text.len() >= 4_294_967_295 {
+        return Err(Fail::new("too long"));
+    }
+    let mut lexer = Lexer::new(text);
+    let mut last = 1;
+    for _ in 0..text.len() + 1 {
+        match lexer.next() {
+            Ok(Some(token)) if token.spot.column < end => last = token.spot.column,
+            _ => return Ok(last),
+        }
+    }
+    Ok(last)
+}
+
+/// Where a refusal stands.
+fn place(refusal: ParseRefusal) -> Option<Spot> {
+    match refusal {
+        ParseRefusal::Unexpected { spot }
+        | ParseRefusal::TooDeep { spot }
+        | ParseRefusal::Lex(
+            LexRefusal::BadCharacter(spot)
+            | LexRefusal::BadEscape(spot)
+            | LexRefusal::OpenString(spot)
+            | LexRefusal::BadNumber(spot)
+            | LexRefusal::FloatToken(spot),
+        ) => Some(spot),
+        ParseRefusal::TooLong | ParseRefusal::NoMemory => None,
+    }
+}
+
+/// Each beginning of a document is one where a definition ends, and else refused at its end or where
+/// its last token begins.
+#[test]
+fn beginnings(rt: HostRuntime) -> Result<(), Fail> {
+    let alloc = rt.alloc();
+    let mut beginning = String::new(alloc);
+    let mut documents = String::new(alloc);
+    let mut end = 1_u32;
+    for letter in rich().chars() {
+        beginning.push(letter)?;
+        end = end.saturating_add(1);
+        match parse(alloc, beginning.as_str()) {
+            Ok(_) => {
+                let length = format!(in alloc; "{} ", beginning.len())?;
+                documents.push_str(length.as_str())?;
+            }
+            Err(refusal) => {
+                let last = last_token(rich(), end)?;
+                let Some(Spot { line, column }) = place(refusal) else {
+                    return Err(Fail::new("no place"));
+                };
+                assert!(rt;
+                    line == 1 && (column == end || column == last),
+                    "{beginning}"
+                );
+            }
+        }
+    }
+    assert_eq!(rt; documents.as_str(), "111 131 144 159 162 ");
+    Ok(())
+}
