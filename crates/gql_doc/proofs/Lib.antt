@@ -24,3 +24,4 @@ pub mod Prints
 pub mod PrintsGrammar
 pub mod Shorter
 pub mod PrintedBack
+pub mod OneAnswer

@@ -65,7 +65,7 @@ not_deep tokens within deep =
     within_none tokens e h = let no = subst IsSome e h in absurd cc
 
 -- a document that is within is read
-is_read : (tokens : List Lexeme) (it : Document) → IsDocument tokens it → IsWithin tokens → reads_document tokens ≡ Ok (it, [])
+pub is_read : (tokens : List Lexeme) (it : Document) → IsDocument tokens it → IsWithin tokens → reads_document tokens ≡ Ok (it, [])
 is_read tokens it is within = ap (reading.document limit) (sym (append-nil tokens)) ∙ by ((parses is.0).reads tokens [] it is.1 refl)
   where
     by : Reads (reads_document (tokens ++ [])) it [] → reads_document (tokens ++ []) ≡ Ok (it, [])

@@ -2,7 +2,8 @@
 //!
 //! `parse` reads a document, or says what is in the way of one. Its contract rests on the grammar, a
 //! relation between tokens and documents (specs/Grammar.antt), and on what the first thing in the way
-//! of a document is (specs/Answer.antt). How the parser's own functions read is specs/Reading.antt, of
+//! of a document is (specs/Answer.antt); a text has one answer by the contract of
+//! `a_text_has_one_answer`. How the parser's own functions read is specs/Reading.antt, of
 //! which no public clause speaks; proofs/Productions.antt shows that it is the grammar.
 //!
 //! `print` writes a document (specs/Printed.antt), and what it writes is that document again: the
@@ -27,7 +28,7 @@ mod tokens;
 mod values;
 mod variables;
 
-pub use laws::{a_printed_document_reads_back, a_printed_string_reads_back};
+pub use laws::{a_printed_document_reads_back, a_printed_string_reads_back, a_text_has_one_answer};
 pub use parsing::parse;
 pub use printing::print;
 pub use refusal::ParseRefusal;

@@ -1,6 +1,6 @@
 //! Documents built by hand, and their texts.
 
-use crate::print;
+use crate::{parse, print};
 use gql_model::{
     Argument, Boxed, Definition, DirectiveUse, Document, FieldNode, FragmentDef, InlineNode,
     Literal, OperationDef, OperationKind, Selection, SpreadNode, TypeRef, VariableDef,
@@ -198,5 +198,44 @@ fn values(rt: HostRuntime) -> Result<(), Fail> {
         got.as_str(),
         "{ b : a ( of : [ [ -7 null ] { c : RED } ] ) }"
     );
+    Ok(())
+}
+
+/// What is printed of the document that a text is.
+fn reprinted(alloc: Global, text: &str) -> Result<Text, Fail> {
+    match parse(alloc, text) {
+        Ok(document) => Ok(print(alloc, &document)?),
+        Err(_) => Err(Fail::new("no document")),
+    }
+}
+
+#[test]
+fn printed_and_read_back(rt: HostRuntime) -> Result<(), Fail> {
+    let alloc = rt.alloc();
+    let table = [
+        ("query{a,b}", "{ a b }"),
+        (
+            "query Q($a:Boolean=true){hero{id @include(if:$a)}}",
+            "query Q ( $ a : Boolean = true ) { hero { id @ include ( if : $ a ) } }",
+        ),
+        (
+            "{a:b(c:[1{d:null}]e:\"\"\"\n f\n\"\"\"){...F...on T@g{h}...{i}}}#",
+            "{ a : b ( c : [ 1 { d : null } ] e : \"f\" ) { ... F ... on T @ g { h } ... { i } } }",
+        ),
+        (
+            "fragment F on T@a(b:\"\\\"\\n\\u0009\\u00e9\"){c}subscription{d}",
+            "fragment F on T @ a ( b : \"\\\"\\n\\u0009\u{e9}\" ) { c } subscription { d }",
+        ),
+        (
+            "mutation($a:[[T!]]!=[] @b,$c:D){e}",
+            "mutation ( $ a : [ [ T ! ] ] ! = [ ] @ b $ c : D ) { e }",
+        ),
+    ];
+    for (text, want) in table {
+        let once = reprinted(alloc, text)?;
+        assert_eq!(rt; once.as_str(), want);
+        let again = reprinted(alloc, once.as_str())?;
+        assert_eq!(rt; again.as_str(), want);
+    }
     Ok(())
 }
