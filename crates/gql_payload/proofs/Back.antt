@@ -34,7 +34,7 @@ use Rattle.gql_tree.specs.Sound.{is_object, is_object_or_null, IsLocated, IsOfFi
 use Rattle.gql_tree.proofs.Marks.{same-value_of}
 use Rattle.gql_tree.proofs.Typed.{no_bad_number}
 use Rattle.gql_payload.specs.Reading.{unless_null, optional, each, optional_list, value, fields, whole, counted, key, path, location, locations, fault, pending, content, entry, completed, initial, completed_of, initial_of, errors_of, has_next_of, incremental_of, pending_of, payload, Decodes}
-use Rattle.gql_payload.specs.Typed.{IsTypedValue, IsTypedKey, IsTypedPath, IsTypedFault, IsTypedPending, IsTypedContent, IsTypedEntry, IsTypedCompleted, IsTypedPayload}
+use Rattle.gql_tree.specs.Typed.{IsTypedValue, IsTypedKey, IsTypedPath, IsTypedFault, IsTypedPending, IsTypedContent, IsTypedEntry, IsTypedCompleted, IsTypedPayload}
 use Rattle.gql_payload.proofs.Printed.{read-compact_text}
 use Rattle.gql_payload.proofs.Orderly.{payload_orderly}
 use Rattle.gql_payload.proofs.Contents.{Part, fault_parts, pending_parts, entry_parts, completed_parts, payload_parts}

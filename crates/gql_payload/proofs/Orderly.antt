@@ -28,7 +28,7 @@ use Rattle.gql_tree.specs.PayloadText.{members, unless_empty, if_some, key_data,
 use Rattle.gql_tree.specs.Typed.{fits, all_items, all_members, typed_step, is_typed}
 use Rattle.gql_tree.proofs.Json.{named_map}
 use Rattle.gql_tree.proofs.Marks.{left_of, right_of}
-use Rattle.gql_payload.specs.Typed.{IsTypedValue, IsTypedKey, IsTypedPath, IsTypedFault, IsTypedPending, IsTypedContent, IsTypedEntry, IsTypedCompleted, IsTypedPayload}
+use Rattle.gql_tree.specs.Typed.{IsTypedValue, IsTypedKey, IsTypedPath, IsTypedFault, IsTypedPending, IsTypedContent, IsTypedEntry, IsTypedCompleted, IsTypedPayload}
 use Rattle.gql_payload.proofs.Contents.{Part, fault_parts, pending_parts, entry_parts, completed_parts, payload_parts}
 use Rattle.gql_payload.proofs.Members.{is_less, leads, ascends}
 use Rattle.gql_payload.proofs.Printed.{IsReadable, Leads, IsOrderly, AreOrderlyItems, AreOrderlyMembers}

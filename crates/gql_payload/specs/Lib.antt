@@ -2,5 +2,4 @@ pub mod Members
 pub mod OneLine
 pub mod Reading
 pub mod WrongAt
-pub mod Typed
 pub mod ReportText

@@ -7,7 +7,7 @@ ghost use Rattle.gql_tree.specs.PayloadText.{payload_data, payload_text};
 ghost use Rattle.gql_tree.specs.Sound.{IsSound, SamePayload};
 ghost use Rattle.gql_payload.specs.OneLine.{IsOneLine};
 ghost use Rattle.gql_payload.specs.Reading.{payload as payload_of, wrong_member, Decodes};
-ghost use Rattle.gql_payload.specs.Typed.{IsTypedPayload};
+ghost use Rattle.gql_tree.specs.Typed.{IsTypedPayload};
 
 use gql_tree::Payload;
 

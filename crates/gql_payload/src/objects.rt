@@ -6,7 +6,7 @@ ghost use Rattle.serde_json.specs.Data.{boolean, string};
 ghost use Rattle.serde_json.specs.View.{view};
 ghost use Rattle.gql_tree.specs.Json.{data_of};
 ghost use Rattle.gql_tree.specs.PayloadText.{key_data, path_data, location, locations, fault_data, pending_data, fields_data, items_data, entry_data, completed_data, payload_data};
-ghost use Rattle.gql_payload.specs.Typed.{IsTypedValue, IsTypedKey, IsTypedPath, IsTypedFault, IsTypedPending, HasTypedFields, HasTypedItems, IsTypedEntry, IsTypedCompleted, IsTypedPayload};
+ghost use Rattle.gql_tree.specs.Typed.{IsTypedValue, IsTypedKey, IsTypedPath, IsTypedFault, IsTypedPending, HasTypedFields, HasTypedItems, IsTypedEntry, IsTypedCompleted, IsTypedPayload};
 
 use crate::parts::{ToSerde, array, if_some, put_some, unless_empty};
 use gql_tree::{Completed, Content, Entry, Fault, Key, NoMemory, Path, Payload, Pending, Text};

@@ -1,9 +1,9 @@
 //! The report of a merged answer.
 
-ghost use Rattle.std.specs.Prelude.{◌≡◌, IfOk};
+ghost use Rattle.std.specs.Prelude.{◌≡◌, IfOk, OnOk};
 ghost use Rattle.serde_json.specs.View.{view};
 ghost use Rattle.gql_payload.specs.ReportText.{failure_data, report_data, report_text};
-ghost use Rattle.gql_payload.specs.Typed.{IsTypedFailure};
+ghost use Rattle.gql_tree.specs.Typed.{IsTypedFailure, IsTypedValue};
 
 use crate::parts::{ToSerde, array, if_some, put_some};
 use gql_tree::{Failure, Fault, NoMemory, Text, Value};
@@ -33,7 +33,8 @@ fn report_json(
     errors: &[Fault],
     failures: &[Failure],
 ) -> Result<serde_json::Value, NoMemory>
-    ensures { IfOk result (λ json. view json ≡ report_data value.now errors.now failures.now) }
+    ensures json { IfOk result (λ json. view json ≡ report_data value.now errors.now failures.now) }
+    ensures typed { OnOk result (IsTypedValue value.now) }
 {
     let failures = array(alloc, failures)?;
     let errors = array(alloc, errors)?;
@@ -53,7 +54,8 @@ pub fn encode_report(
     errors: &[Fault],
     failures: &[Failure],
 ) -> Result<Text, NoMemory>
-    ensures { IfOk result (λ text. text ≡ report_text value.now errors.now failures.now) }
+    ensures text { IfOk result (λ text. text ≡ report_text value.now errors.now failures.now) }
+    ensures typed { OnOk result (IsTypedValue value.now) }
 {
     let json = report_json(alloc, value, errors, failures)?;
     Ok(Text::from_string(json.to_string(alloc)?))

@@ -40,7 +40,7 @@ pub data_List : (xs : List Value) → data_of (Value.List xs) ≡ array (items_o
 data_List xs = ap data_of (sym (rolls-List xs)) ∙ fold-roll-Value Data data_step (Value-F.List xs)
 
 -- data that are put in are those of the values
-put_all-map : {X : Type 0} (f : X → Data) (found : Members) (ms : List (Named X)) → put_all (λ d. d) found (map (named_map f) ms) ≡ put_all f found ms
+pub put_all-map : {X : Type 0} (f : X → Data) (found : Members) (ms : List (Named X)) → put_all (λ d. d) found (map (named_map f) ms) ≡ put_all f found ms
 put_all-map f found [] = refl
 put_all-map f found (m ∷ ms) = put_all-map f (put m.name (f m.value) found) ms
 

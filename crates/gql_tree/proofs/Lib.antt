@@ -13,5 +13,8 @@ pub mod Json
 pub mod FromJson
 pub mod Marks
 pub mod Typed
+mod Below
+pub mod One
+pub mod Uniting
 pub mod Finite
 mod Texts

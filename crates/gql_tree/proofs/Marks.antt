@@ -27,7 +27,7 @@ use Rattle.gql_tree.specs.FromJson.{integer_of, value_of, values_of, fields_of}
 use Rattle.gql_tree.specs.Typed.{all_items, all_members, typed_step, is_typed}
 use Rattle.gql_tree.specs.Same.{SameFlat}
 use Rattle.gql_tree.proofs.Names.{either, both}
-use Rattle.gql_tree.proofs.Json.{named_map}
+use Rattle.gql_tree.proofs.Json.{named_map, put_all-map}
 
 -- ---- paths in a datum
 
@@ -138,13 +138,13 @@ put_by true n m ms found e gone =
 put_by false n m ms found e gone =
     ap (option_or (option_map data_of (named n ms))) (get_member-put_other n m.name (data_of m.value) found (λ same. let t : bytes_eq m.name n ≡ true = (bytes_eq-Decides m.name n).1 (sym same) in absurd (cc)))
 
-members_at : (n : List ℕ) (ms : List (Named Value)) (found : Members) → IsTrue (apart ms) → get_member n (put_all data_of found ms) ≡ option_or (option_map data_of (named n ms)) (get_member n found)
+pub members_at : (n : List ℕ) (ms : List (Named Value)) (found : Members) → IsTrue (apart ms) → get_member n (put_all data_of found ms) ≡ option_or (option_map data_of (named n ms)) (get_member n found)
 members_at n [] found h = refl
 members_at n (m ∷ ms) found h =
     let p = both (has_name m.name ms) (apart ms) h in
     members_at n ms (put m.name (data_of m.value) found) p.1 ∙ put_by (bytes_eq m.name n) n m ms found refl p.0
 
-or_none : {A : Type 0} (o : Option A) → option_or o None ≡ o
+pub or_none : {A : Type 0} (o : Option A) → option_or o None ≡ o
 or_none None = refl
 or_none (Some x) = refl
 
@@ -152,10 +152,6 @@ items_at : (xs : List Value) (i : ℕ) → get_item i (items_of (map data_of xs)
 items_at [] i = refl
 items_at (x ∷ xs) zero = refl
 items_at (x ∷ xs) (suc i) = items_at xs i
-
-put_all-map : (found : Members) (ms : List (Named Value)) → put_all (λ d. d) found (map (named_map data_of) ms) ≡ put_all data_of found ms
-put_all-map found [] = refl
-put_all-map found (m ∷ ms) = put_all-map (put m.name (data_of m.value) found) ms
 
 has_map : {X Y : Type 0} (f : X → Y) (n : List ℕ) (ms : List (Named X)) → has_name n (map (named_map f) ms) ≡ has_name n ms
 has_map f n [] = refl
@@ -166,7 +162,7 @@ apart-map f [] = refl
 apart-map f (m ∷ ms) = rw (has_map f m.name ms, apart-map f ms) refl
 
 -- one level of a typed value: its names are apart
-abbrev layer_apart : Layer → Type 0
+abbrev pub layer_apart : Layer → Type 0
 layer_apart (Value-F.Object ms) = IsTrue (apart ms)
 layer_apart _ = Unit {0}
 
@@ -182,7 +178,7 @@ below_layer (Value-F.Text t) (Name n) h = refl
 below_layer (Value-F.List xs) (Index i) h = items_at xs i
 below_layer (Value-F.List xs) (Name n) h = refl
 below_layer (Value-F.Object ms) (Index i) h = refl
-below_layer (Value-F.Object ms) (Name n) h = ap (get_member n) (put_all-map no_members ms) ∙ (members_at n ms no_members h ∙ or_none (option_map data_of (named n ms)))
+below_layer (Value-F.Object ms) (Name n) h = ap (get_member n) (put_all-map data_of no_members ms) ∙ (members_at n ms no_members h ∙ or_none (option_map data_of (named n ms)))
 
 items_length : (xs : List Value) → items_len (items_of (map data_of xs)) ≡ length xs
 items_length [] = refl
@@ -200,10 +196,10 @@ mark_layer (Value-F.Text t) = refl
 mark_layer (Value-F.List xs) = ap mark.list (items_length xs)
 mark_layer (Value-F.Object ms) = refl
 
-data_out : (v : Value) → data_of v ≡ data_step (map-Value Value Data data_of (out-Value v))
+pub data_out : (v : Value) → data_of v ≡ data_step (map-Value Value Data data_of (out-Value v))
 data_out v = fold_out-Value Data data_step v
 
-typed_out : (v : Value) → is_typed v ≡ typed_step (map-Value Value Bool is_typed (out-Value v))
+pub typed_out : (v : Value) → is_typed v ≡ typed_step (map-Value Value Bool is_typed (out-Value v))
 typed_out v = fold_out-Value Bool typed_step v
 
 -- ---- typed values
@@ -243,6 +239,12 @@ typed_below (Value-F.Object ms) (Name n) w h is = typed_member ms n w (right_of 
 typed_below _ (Index i) w h is = absurd (cc)
 typed_below _ (Name n) w h is = absurd (cc)
 
+pub apart_typed : (v : Value) → IsTrue (is_typed v) → layer_apart (out-Value v)
+apart_typed v h = apart_layer (out-Value v) (sym (typed_out v) ∙ h)
+
+pub typed_below_value : (v : Value) (k : Key) (w : Value) → IsTrue (is_typed v) → below (out-Value v) k ≡ Some w → IsTrue (is_typed w)
+typed_below_value v k w h is = typed_below (out-Value v) k w (sym (typed_out v) ∙ h) is
+
 data_maybe : (o : Option Value) (path : List Key) → ((w : Value) → o ≡ Some w → flat w path ≡ flat_in (data_of w) path) → mark_at o path ≡ mark_in_at (option_map data_of o) path
 data_maybe None path h = refl
 data_maybe (Some w) path h = h w refl
@@ -251,9 +253,8 @@ data_maybe (Some w) path h = h w refl
 pub flat-data_of : (path : List Key) (v : Value) → IsTrue (is_typed v) → flat v path ≡ flat_in (data_of v) path
 flat-data_of [] v h = ap Some (sym (mark_layer (out-Value v)) ∙ ap mark_in (sym (data_out v)))
 flat-data_of (k ∷ path) v h =
-    let typed : IsTrue (typed_step (map-Value Value Bool is_typed (out-Value v))) = sym (typed_out v) ∙ h in
-    let here : below_in (data_of v) k ≡ option_map data_of (below (out-Value v) k) = ap (λ d. below_in d k) (data_out v) ∙ below_layer (out-Value v) k (apart_layer (out-Value v) typed) in
-    data_maybe (below (out-Value v) k) path (λ w is. flat-data_of path w (typed_below (out-Value v) k w typed is))
+    let here : below_in (data_of v) k ≡ option_map data_of (below (out-Value v) k) = ap (λ d. below_in d k) (data_out v) ∙ below_layer (out-Value v) k (apart_typed v h) in
+    data_maybe (below (out-Value v) k) path (λ w is. flat-data_of path w (typed_below_value v k w h is))
     ∙ ap (λ o. mark_in_at o path) (sym here)
 
 -- ---- values with equal data

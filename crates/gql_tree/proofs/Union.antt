@@ -206,7 +206,7 @@ join_step ns rs new ms i r m e f lt h j =
 pub clash_here : (a b : Value) → (mark_of (out-Value a) ≡ mark_of (out-Value b) → ⊥) → Conflict a b
 clash_here a b h = ([], mark_of (out-Value a), mark_of (out-Value b), refl, refl, h)
 
-clash_below : (a b x y : Value) (k : Key) → below (out-Value a) k ≡ Some x → below (out-Value b) k ≡ Some y → Conflict x y → Conflict a b
+pub clash_below : (a b x y : Value) (k : Key) → below (out-Value a) k ≡ Some x → below (out-Value b) k ≡ Some y → Conflict x y → Conflict a b
 clash_below a b x y k e f c = (k ∷ c.0, c.1, c.2, ap (at_path c.0) e ∙ c.3, ap (at_path c.0) f ∙ c.4, c.5)
 
 pub items_clash : (a b : Value) (xs : List Value) → a ≡ v.List xs → ItemsClash xs (items_of (out-Value b)) → Conflict a b

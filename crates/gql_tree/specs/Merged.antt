@@ -12,9 +12,10 @@ use Rattle.gql_tree.specs.declared.delivery.RegionResult.{RegionResult}
 use Rattle.gql_tree.specs.declared.delivery.TaskWork.TheVariants.{Fields, Item}
 use Rattle.gql_tree.specs.Keys.{same_lists, same_key}
 use Rattle.gql_tree.specs.Flat.{Mark, list, flat}
+use Rattle.gql_tree.specs.Typed.{IsTypedValue}
 use Rattle.gql_tree.specs.Order.{group_cmp, fault_cmp, failure_cmp}
 use Rattle.gql_tree.specs.Ordered.{ordered}
-use Rattle.gql_tree.specs.Forest.{Forest, Branches, grown, none, more, region}
+use Rattle.gql_tree.specs.Forest.{Forest, Branches, grown, none, more}
 use Rattle.gql_tree.specs.FirstPayloads.{value_of}
 use Rattle.gql_tree.specs.Fate.{is_good, ItemRun, Scope, scope_of, groups_of, is_ok, is_delivered, is_announced, items_run, items_of_stream, is_item_delivered}
 
@@ -100,8 +101,9 @@ abbrev pub HasMark : Delivery → List Key → Mark → Type 0
 HasMark d path m = (x : Part) × Contains d.parts x × (rest : List Key) × (raw : Mark)
     × (path ≡ x.at ++ rest) × (flat x.value rest ≡ Some raw) × (m ≡ settled d.lists path raw)
 
--- the union of the delivered parts, their errors, and the failures, both in order
+-- a value that has the union of the delivered parts, their errors, and the failures, both in order
 pub record IsMerged (f : Forest) (value : Value) (faults : List Fault) (failed : List Failure) : Type 0 where
+  pub typed : IsTypedValue value
   pub marks : (path : List Key) (m : Mark) → (flat value path ≡ Some m) ↔ HasMark (delivery f) path m
   pub errors : faults ≡ ordered fault_cmp (flat_map (λ x. x.errors) (delivery f).parts)
   pub failures : failed ≡ ordered failure_cmp (delivery f).failures

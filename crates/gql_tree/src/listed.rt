@@ -82,10 +82,14 @@ impl<T> Listed<T> {
 }
 
 impl<T: Drop> Listed<T> {
+    /// The first item takes room for one: most lists of a document have no second.
     pub fn push(&mut self, item: T) -> Result<(), NoMemory>
         ensures ok { OnOk result (self.new ≡ self.old ++ item ∷ []) }
         ensures err { OnErr result (self.new ≡ self.old) }
     {
+        if self.items.capacity() == 0 {
+            self.items.reserve_exact(1)?;
+        }
         self.items.push(item)?;
         Ok(())
     }
