@@ -29,7 +29,7 @@ use Rattle.gql_tree.specs.Merged.{Delivery, part, errors_of, delivery}
 use Rattle.gql_merge.proofs.Received.{initial_payload, later_payload, fields_entry}
 use Rattle.gql_merge.proofs.Taken.{completed}
 
-same_key-refl : (k : Key) → same_key k k ≡ true
+pub same_key-refl : (k : Key) → same_key k k ≡ true
 same_key-refl (Index i) = (Decides-eqb i i).1 refl
 same_key-refl (Name n) = (bytes_eq-Decides n n).1 refl
 

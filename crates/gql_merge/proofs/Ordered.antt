@@ -1,13 +1,13 @@
--- A sorted list that has a list's elements is that list in order.
-use Rattle.std.proofs.Common.{◌≡◌, ℕ, ◌+◌, ◌<◌, List, [], ◌∷◌, refl, sym, subst, ◌∙◌, ap, Bool, true, false, cond, add-one, arith}
+-- A list in order is sorted and has the list's elements, and a sorted list that has them is the list in order.
+use Rattle.std.proofs.Common.{◌≡◌, ℕ, zero, suc, ◌+◌, ◌<◌, List, [], ◌∷◌, refl, sym, subst, ◌∙◌, ap, Bool, true, false, cond, add-one, arith}
 use Rattle.std.specs.List.{sum_by}
-use Rattle.std.specs.List.Sorted.{IsSorted}
+use Rattle.std.specs.List.Sorted.{IsPermutation, IsSorted}
 use Rattle.std.specs.Ordering.{is_lt, is_eq, is_gt, match_ordering, ordering_reverse}
 use Rattle.std.specs.declared.cmp.Ordering.{Ordering}
 use Rattle.std.specs.declared.cmp.Ordering.TheVariants.{Less, Equal, Greater}
 use Rattle.std.specs.Cmp.{IsTotalOrder}
 use Rattle.std.proofs.lemmas.Cmp.{upto, tied_itself}
-use Rattle.std.proofs.lemmas.List.Sorted.{sum_by-IsPermutation}
+use Rattle.std.proofs.lemmas.List.Sorted.{sum_by-IsPermutation, IsPermutation-refl, IsPermutation-trans, IsPermutation-cons, IsPermutation-middle}
 use Rattle.std.proofs.lemmas.List.Sums.{sum_by-cons}
 use Rattle.gql_tree.specs.Ordered.{placed, ordered}
 use Rattle.gql_merge.specs.Order.{Sorts}
@@ -46,6 +46,11 @@ module _ {X : Type 0} (cmp : X → X → Ordering) (total : IsTotalOrder cmp) (e
   not_less o Less e h = absurd (cc)
   not_less o Equal e h = ap is_gt e
   not_less o Greater e h = ap is_gt e
+
+  not_greater : (o p : Ordering) → o ≡ ordering_reverse p → is_gt p ≡ false → is_lt o ≡ false
+  not_greater o Less e h = ap is_lt e
+  not_greater o Equal e h = ap is_lt e
+  not_greater o Greater e h = absurd (cc)
 
   rises_of : (xs : List X) → IsSorted cmp xs → Rises xs
   rises_of [] h = tt
@@ -131,6 +136,28 @@ module _ {X : Type 0} (cmp : X → X → Ordering) (total : IsTotalOrder cmp) (e
   rises_ordered : (xs : List X) → Rises (ordered cmp xs)
   rises_ordered [] = tt
   rises_ordered (x ∷ xs) = rises_placed x (ordered cmp xs) (rises_ordered xs)
+
+  sorted_of : (xs : List X) → Rises xs → IsSorted cmp xs
+  sorted_of [] h k d lo hi = absurd (omega arith)
+  sorted_of (x ∷ []) h k d lo hi = absurd (omega arith)
+  sorted_of (x ∷ y ∷ ys) h zero d lo hi = not_greater _ _ (total.antisymm y x) h.0.0
+  sorted_of (x ∷ y ∷ ys) h (suc k) d lo hi = simp add-one (simp add-one at (sorted_of (y ∷ ys) h.1 k d (omega arith) (omega arith)))
+
+  placed_by : (o : Ordering) (x y : X) (ys : List X) → IsPermutation (x ∷ ys) (placed cmp x ys) → IsPermutation (x ∷ y ∷ ys) (match_ordering o (x ∷ y ∷ ys) (x ∷ y ∷ ys) (y ∷ placed cmp x ys))
+  placed_by Less x y ys h = IsPermutation-refl (x ∷ y ∷ ys)
+  placed_by Equal x y ys h = IsPermutation-refl (x ∷ y ∷ ys)
+  placed_by Greater x y ys h = IsPermutation-trans _ _ _ (IsPermutation-middle (x ∷ []) y ys) (IsPermutation-cons y (x ∷ ys) (placed cmp x ys) h)
+
+  permutes-placed : (x : X) (ys : List X) → IsPermutation (x ∷ ys) (placed cmp x ys)
+  permutes-placed x [] = IsPermutation-refl (x ∷ [])
+  permutes-placed x (y ∷ ys) = placed_by (cmp x y) x y ys (permutes-placed x ys)
+
+  permutes-ordered : (xs : List X) → IsPermutation xs (ordered cmp xs)
+  permutes-ordered [] = IsPermutation-refl []
+  permutes-ordered (x ∷ xs) = IsPermutation-trans _ _ _ (IsPermutation-cons x xs (ordered cmp xs) (permutes-ordered xs)) (permutes-placed x (ordered cmp xs))
+
+  pub ordered-sorts : (xs : List X) → Sorts cmp xs (ordered cmp xs)
+  ordered-sorts xs = (permutes-ordered xs, sorted_of (ordered cmp xs) (rises_ordered xs))
 
   -- ---- it has the same elements
 

@@ -14,6 +14,7 @@ use Rattle.gql_tree.specs.Flat.{Mark, flat}
 use Rattle.gql_tree.specs.Union.{IsUnion, moved}
 use Rattle.gql_tree.specs.Forest.{Forest}
 use Rattle.gql_tree.specs.FirstPayloads.{value_of}
+use Rattle.gql_tree.specs.Typed.{IsTypedValue}
 use Rattle.gql_tree.specs.Merged.{Delivery, HasMark, IsMerged, delivery}
 use Rattle.gql_merge.proofs.Deliveries.{alone, alone_delivered, waiting, good_delivered, failed_delivered}
 use Rattle.gql_merge.proofs.PartMarks.{marks_alone, marks_united}
@@ -22,30 +23,31 @@ abbrev pub HasResponse : Forest → Type 0
 HasResponse f = (x : Value) × (faults : List Fault) × (failures : List Failure) × IsMerged f x faults failures
 
 -- by the marks of its value
-response : (f : Forest) (d : Delivery) → delivery f ≡ d → (x : Value) → ((path : List Key) (m : Mark) → (flat x path ≡ Some m) ↔ HasMark d path m) → HasResponse f
-response f d is x marks = (
+response : (f : Forest) (d : Delivery) → delivery f ≡ d → (x : Value) → IsTypedValue x → ((path : List Key) (m : Mark) → (flat x path ≡ Some m) ↔ HasMark d path m) → HasResponse f
+response f d is x typed marks = (
   x,
   _,
   _,
   record {
+    typed = typed;
     marks = λ path m. subst (λ (e : Delivery). (flat x path ≡ Some m) ↔ HasMark e path m) (sym is) (marks path m);
     errors = refl;
     failures = refl;
   },
 )
 
-pub alone_response : (outcome : Outcome) (faults : List Fault) (fragments : List Frag) → HasResponse (alone outcome faults fragments)
-alone_response outcome faults fragments =
-    response (alone outcome faults fragments) _ (alone_delivered outcome faults fragments) (value_of outcome) (marks_alone (value_of outcome) (value_of outcome) (λ path. refl) faults [])
+pub alone_response : (outcome : Outcome) (faults : List Fault) (fragments : List Frag) → IsTypedValue (value_of outcome) → HasResponse (alone outcome faults fragments)
+alone_response outcome faults fragments typed =
+    response (alone outcome faults fragments) _ (alone_delivered outcome faults fragments) (value_of outcome) typed (marks_alone (value_of outcome) (value_of outcome) (λ path. refl) faults [])
 
 module _ (value : Value) (faults : List Fault) (id : FragId) (label : Option (List ℕ)) (row : Row) (fields : List Detail) (later : List Fault) where
   -- the group's fields are united with the initial value
-  pub united_response : (y w : Value) → IsUnion (flat w) (flat value) (moved id.path.keys (flat y)) → HasResponse (waiting value faults id label row fields (Good y) later)
-  united_response y w union =
-      response (waiting value faults id label row fields (Good y) later) _ (good_delivered value faults id label row fields y later) w
+  pub united_response : (y w : Value) → IsTypedValue w → IsUnion (flat w) (flat value) (moved id.path.keys (flat y)) → HasResponse (waiting value faults id label row fields (Good y) later)
+  united_response y w typed union =
+      response (waiting value faults id label row fields (Good y) later) _ (good_delivered value faults id label row fields y later) w typed
       (marks_united value value (λ path. refl) faults w y y id.path.keys union (λ path. refl) later [])
 
-  pub failed_response : HasResponse (waiting value faults id label row fields Failed later)
-  failed_response =
-      response (waiting value faults id label row fields Failed later) _ (failed_delivered value faults id label row fields later) value
+  pub failed_response : IsTypedValue value → HasResponse (waiting value faults id label row fields Failed later)
+  failed_response typed =
+      response (waiting value faults id label row fields Failed later) _ (failed_delivered value faults id label row fields later) value typed
       (marks_alone value value (λ path. refl) faults (record { path = id.path; label = label; errors = later } ∷ []))

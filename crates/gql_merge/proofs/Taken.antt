@@ -109,7 +109,7 @@ abbrev pub completed : Pending → List Fault → Completed
 completed g errors = record { id = g.id; errors = errors }
 
 module _ (g : Pending) (ids : List (List ℕ)) (errors : List Fault) where
-  complete_is : (x : Value) (cs : List Fault) → complete (completed g cs) (waiting_state x g ids errors) ≡ Ok (done_state x ids errors (failed g cs))
+  pub complete_is : (x : Value) (cs : List Fault) → complete (completed g cs) (waiting_state x g ids errors) ≡ Ok (done_state x ids errors (failed g cs))
   complete_is x cs = rw (same_id g.id) (rw (same_id g.id) refl)
 
   completes : (x : Value) (cs : List Fault) (q : Answer) → Each Completes (completed g cs ∷ []) (waiting_state x g ids errors) q → q ≡ Ok (done_state x ids errors (failed g cs))
@@ -126,10 +126,10 @@ module _ (g : Pending) (ids : List (List ℕ)) (errors : List Fault) where
     nothing_taken = ends_taken _ (waiting_state x g ids errors) (done_state x ids errors (failed g cs)) refl nothing_led
 
   module _ (x y : Value) (zs : List Fault) (stands : flat x g.path.keys ≡ Some object) (fits : Clashes (flat x) (moved g.path.keys (flat y)) → ⊥) where
-    abbrev entry : Entry
+    abbrev pub entry : Entry
     entry = fields_entry g.id (record { keys = [] }) zs y
 
-    target_is : target entry (g ∷ []) ≡ Some g.path.keys
+    pub target_is : target entry (g ∷ []) ≡ Some g.path.keys
     target_is = rw (same_id g.id) (ap Some (append-nil g.path.keys))
 
     grafted : (q : Answer) → Delivers entry (waiting_state x g ids errors) q → Grafts g.path.keys y (waiting_state x g ids errors) q
@@ -165,7 +165,7 @@ module _ (g : Pending) (ids : List (List ℕ)) (errors : List Fault) where
         (λ e k. never_grafted e (grafted (Err e) k))
         (λ m u k. (u.0, u.1, k ∙ ap Ok u.2)) h
 
-    abbrev payload : Payload
+    abbrev pub payload : Payload
     payload = later_payload (entry ∷ []) (completed g [] ∷ []) (Some false)
 
     fields_led : (r : Answer) → Apply payload (waiting_state x g ids errors) r → (w : Value) × IsUnited w × Ends payload (done_state w ids errors []) r

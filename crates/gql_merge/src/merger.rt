@@ -2,6 +2,7 @@ ghost use Rattle.std.specs.Prelude.{◌≡◌, Ok, Err, IfOk, OnOk, OnErr, not};
 ghost use Rattle.std.specs.Option.{option_copied};
 ghost use Rattle.gql_merge.specs.Apply.{OnRefusal, Apply, fresh};
 ghost use Rattle.gql_merge.specs.Report.{report_of};
+ghost use Rattle.gql_merge.specs.Same.{IsTypedState};
 
 use crate::{MergeRefusal, State};
 use gql_payload::encode_report;
@@ -86,7 +87,8 @@ impl Merger {
     /// The merged data, the errors and the failures as compact JSON, and `none` where no payload was
     /// taken.
     pub fn report(&self) -> Result<Text, NoMemory>
-        ensures { IfOk result (λ text. text ≡ report_of self.now.state) }
+        ensures text { IfOk result (λ text. text ≡ report_of self.now.state) }
+        ensures typed { OnOk result (IsTypedState self.now.state) }
     {
         let errors = self.state.errors.as_slice();
         let failures = self.state.failures.as_slice();
