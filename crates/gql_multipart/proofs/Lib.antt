@@ -21,3 +21,4 @@ pub mod Lines
 pub mod Fronts
 pub mod RegionKinds
 pub mod Sayings
+pub mod PartFronts

@@ -8,7 +8,7 @@ use Rattle.gql_multipart.proofs.Answering.{one_of}
 use Rattle.gql_multipart.proofs.Unique.{content_one}
 use Rattle.gql_multipart.proofs.RegionKinds.{kind_one}
 
-front_open : (boundary bytes : List ℕ) (k : ℕ) → IsOpen boundary bytes → IsOpen boundary (take k bytes)
+pub front_open : (boundary bytes : List ℕ) (k : ℕ) → IsOpen boundary bytes → IsOpen boundary (take k bytes)
 front_open boundary bytes k (rest, contents, body) =
     (drop k bytes ++ rest, contents, subst (λ z. Body boundary z contents) (ap (λ z. z ++ rest) (sym (take-append-drop k bytes)) ∙ append_assoc (take k bytes) (drop k bytes) rest) body)
 
