@@ -1,5 +1,5 @@
 -- What is found lies within the text.
-use Rattle.std.proofs.Common.{◌≡◌, ℕ, zero, suc, ◌+◌, ◌-◌, ◌<◌, ◌≤◌, ◌==◌, Bool, true, false, ◌&&◌, List, [], ◌∷◌, length, drop, get_or, refl, ap, sym, ◌∙◌, subst, lit<, arith, length-drop}
+use Rattle.std.proofs.Common.{◌≡◌, ℕ, zero, suc, ◌+◌, ◌-◌, ◌<◌, ◌≤◌, ◌==◌, Bool, true, false, ◌&&◌, List, [], ◌∷◌, ◌++◌, length, drop, get_or, refl, ap, sym, ◌∙◌, subst, lit<, arith, length-drop}
 use Rattle.std.specs.Prelude.{nat_eq, if◌then◌else◌}
 use Rattle.std.specs.List.{starts_with, prefix_len}
 use Rattle.std.specs.Char.{is_ascii_digit}
@@ -29,6 +29,14 @@ begins_with_three [] byte h = absurd (cc)
 begins_with_three (x ∷ []) byte h = absurd (let e = (both_true (nat_eq byte x) false h).1 in cc)
 begins_with_three (x ∷ y ∷ []) byte h = absurd (let e = (both_true (nat_eq byte y) false (both_true (nat_eq byte x) (nat_eq byte y && false) h).1).1 in cc)
 begins_with_three (x ∷ y ∷ z ∷ xs) byte h = (omega arith, sym (eqb-true byte z (both_true (nat_eq byte z) true (both_true (nat_eq byte y) (nat_eq byte z && true) (both_true (nat_eq byte x) (nat_eq byte y && (nat_eq byte z && true)) h).1).1).0))
+
+-- a text is what it starts with, and then the rest
+pub starts_split : (front text : List ℕ) → starts_with nat_eq text front ≡ true → text ≡ front ++ drop (length front) text
+starts_split [] text is = refl
+starts_split (x ∷ front) [] is = absurd (cc)
+starts_split (x ∷ front) (y ∷ text) is =
+    let p = both_true (nat_eq x y) (starts_with nat_eq text front) is in
+    ap (λ z. z ∷ text) (sym (eqb-true x y p.0)) ∙ ap (λ xs. x ∷ xs) (starts_split front text p.1)
 
 -- ---- strings
 

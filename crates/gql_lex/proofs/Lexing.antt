@@ -9,7 +9,7 @@ use Rattle.gql_lex.specs.declared.scan.Found.TheVariants.{Token, Wrong}
 use Rattle.gql_lex.specs.declared.token.LexRefusal.{LexRefusal}
 use Rattle.gql_lex.specs.Front.{front}
 use Rattle.gql_lex.specs.Tokens.{Lexeme, End, Whole, Refused, answer_by, blanks, next_of, done_by, done_with, Lexes}
-use Rattle.gql_lex.proofs.Texts.{IsPlain}
+use Rattle.gql_lex.proofs.Texts.{IsTextOf}
 use Rattle.gql_lex.proofs.Tokens.{IsSound, token-sound}
 
 -- a token stands at the front, behind the blanks
@@ -36,14 +36,14 @@ is_next passed rest token is =
 
 -- a token is right for its kind
 abbrev pub IsRight : Lexeme → Type 0
-IsRight token = IsPlain token.kind token.text
+IsRight token = IsTextOf token.kind token.text
 
 -- each token is right for its kind
 pub tokens-right : (passed rest : List ℕ) (tokens : List Lexeme) (end : End) → Lexes passed rest tokens end → Each IsRight tokens
 tokens-right passed rest [] end lexes = tt
 tokens-right passed rest (token ∷ tokens) end lexes =
     let next = is_next passed rest token lexes.0 in
-    (subst (IsPlain token.kind) (sym next.text) next.sound.right, tokens-right (passed ++ take (done_with rest) rest) (drop (done_with rest) rest) tokens end lexes.1)
+    (subst (IsTextOf token.kind) (sym next.text) next.sound.right, tokens-right (passed ++ take (done_with rest) rest) (drop (done_with rest) rest) tokens end lexes.1)
 
 -- ---- UTF-8
 

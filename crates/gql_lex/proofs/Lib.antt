@@ -1,13 +1,17 @@
 pub mod Answers
+pub mod BlockTexts
 pub mod Contents
 pub mod Determined
+pub mod Escapes
 pub mod Found
 pub mod Fronts
 pub mod Lexing
 pub mod Longest
 pub mod Places
+pub mod QuotedTexts
 pub mod Runs
 pub mod Steps
+pub mod StringTexts
 pub mod Texts
 pub mod TokenPlaces
 pub mod Tokens

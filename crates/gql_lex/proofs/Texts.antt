@@ -2,6 +2,7 @@
 use Rattle.std.proofs.Common.{◌≡◌, ℕ, ◌⊎◌, true, List, [], ◌∷◌, ◌++◌}
 use Rattle.gql_lex.specs.Classes.{is_mark}
 use Rattle.gql_lex.specs.Longest.{IsName, IsMinus, IsWhole}
+use Rattle.gql_lex.specs.StringTexts.{IsQuoted, IsBlock}
 use Rattle.gql_lex.specs.declared.token.TokenKind.{TokenKind}
 use Rattle.gql_lex.specs.declared.token.TokenKind.TheVariants as kind
 
@@ -17,10 +18,10 @@ pub record IsInteger (text : List ℕ) : Type 0 where
 abbrev pub IsPunctuator : List ℕ → Type 0
 IsPunctuator text = ((byte : ℕ) × (is_mark byte ≡ true) × (text ≡ byte ∷ [])) ⊎ (text ≡ 46 ∷ 46 ∷ 46 ∷ [])
 
--- the text is right for its kind, where that is not a string
-abbrev pub IsPlain : TokenKind → List ℕ → Type 0
-IsPlain kind.Name text = IsName text
-IsPlain kind.Int text = IsInteger text
-IsPlain kind.Punctuator text = IsPunctuator text
-IsPlain kind.Quoted text = Unit {0}
-IsPlain kind.Block text = Unit {0}
+-- the text is right for its kind
+abbrev pub IsTextOf : TokenKind → List ℕ → Type 0
+IsTextOf kind.Name text = IsName text
+IsTextOf kind.Int text = IsInteger text
+IsTextOf kind.Punctuator text = IsPunctuator text
+IsTextOf kind.Quoted text = (value : List ℕ) × IsQuoted text value
+IsTextOf kind.Block text = (raw : List ℕ) × IsBlock text raw

@@ -1,11 +1,11 @@
 -- What is found is sound: a token lies within the text, begins and ends with ASCII, and is right for its kind.
-use Rattle.std.proofs.Common.{◌≡◌, ℕ, ◌+◌, ◌-◌, ◌<◌, ◌≤◌, ◌==◌, inl, inr, true, ◌||◌, List, [], ◌∷◌, ◌++◌, length, take, drop, get_or, Option, Some, None, refl, ap, sym, ◌∙◌, subst, lit<, arith, length-drop}
+use Rattle.std.proofs.Common.{◌≡◌, ℕ, ◌+◌, ◌-◌, ◌<◌, ◌≤◌, ◌==◌, inl, inr, true, ◌||◌, List, [], ◌∷◌, ◌++◌, length, take, drop, get_or, Option, Some, None, refl, ap, sym, ◌∙◌, subst, lit<, arith, append_assoc, length-append, length-drop}
 use Rattle.std.specs.Prelude.{nat_eq}
 use Rattle.std.specs.List.{starts_with, prefix_len}
 use Rattle.std.specs.Char.{is_ascii_digit}
-use Rattle.std.proofs.lemmas.Bool.{cond_both, and_parts, or_parts, eqb-true, eqb-false}
+use Rattle.std.proofs.lemmas.Bool.{cond_both, or_parts, eqb-true, eqb-false}
 use Rattle.std.proofs.lemmas.Bool.Decides.{nat_tests}
-use Rattle.std.proofs.lemmas.List.{length-take-le}
+use Rattle.std.proofs.lemmas.List.{length-take-le, take_at, take-append-drop}
 use Rattle.std.proofs.lemmas.List.Sums.{prefix_len-le-length}
 use Rattle.gql_lex.specs.declared.run.Pieces.TheVariants.{QuotedItems, SoundItems, BlockItems}
 use Rattle.gql_lex.specs.declared.scan.Found.{Found}
@@ -17,10 +17,13 @@ use Rattle.gql_lex.specs.Numbers.{digits, minus_len, whole_len, integer_len, num
 use Rattle.gql_lex.specs.Runs.{run_len}
 use Rattle.gql_lex.specs.Strings.{closed_quoted, quoted, allowed_len, closed_block, block, string}
 use Rattle.gql_lex.specs.Front.{front}
+use Rattle.gql_lex.specs.StringTexts.{three_quotes}
+use Rattle.gql_lex.proofs.BlockTexts.{block_content-is}
+use Rattle.gql_lex.proofs.QuotedTexts.{quoted_content-is}
 use Rattle.gql_lex.proofs.Answers.{take-split}
-use Rattle.gql_lex.proofs.Found.{begins_with, begins_with_three, Lies-quoted, Lies-block, Lies-integer, Lies-name}
+use Rattle.gql_lex.proofs.Found.{begins_with, begins_with_three, starts_split, Lies-quoted, Lies-block, Lies-integer, Lies-name}
 use Rattle.gql_lex.proofs.Longest.{name-is}
-use Rattle.gql_lex.proofs.Texts.{IsPlain}
+use Rattle.gql_lex.proofs.Texts.{IsTextOf}
 use Rattle.gql_lex.proofs.Written.{minus-is, whole-is, integer_parts}
 
 pub record IsSound (text : List ℕ) (kind : TokenKind) (len : ℕ) : Type 0 where
@@ -28,7 +31,7 @@ pub record IsSound (text : List ℕ) (kind : TokenKind) (len : ℕ) : Type 0 whe
   pub fits : len ≤ length text
   pub first : get_or text 0 0 < 128
   pub last : get_or text (len - 1) 0 < 128
-  pub right : IsPlain kind (take len text)
+  pub right : IsTextOf kind (take len text)
 
 -- what is found is sound, where it is a token
 abbrev Sound : List ℕ → Found → Type 0
@@ -50,14 +53,6 @@ mark_sound : (byte : ℕ) (rest : List ℕ) → is_mark byte ≡ true → IsSoun
 mark_sound byte rest is =
     let small : byte < 128 = grind (arith, nat_tests) in
     record { some = lit< tt; fits = omega arith; first = small; last = small; right = inl (byte, is, refl) }
-
--- a text is what it starts with, and then the rest
-starts_split : (front text : List ℕ) → starts_with nat_eq text front ≡ true → text ≡ front ++ drop (length front) text
-starts_split [] text is = refl
-starts_split (x ∷ front) [] is = absurd (cc)
-starts_split (x ∷ front) (y ∷ text) is =
-    let p = and_parts (nat_eq x y) (starts_with nat_eq text front) is in
-    ap (λ z. z ∷ text) (sym (eqb-true x y p.0)) ∙ ap (λ xs. x ∷ xs) (starts_split front text p.1)
 
 dots_sound : (text : List ℕ) → starts_with nat_eq text (46 ∷ 46 ∷ 46 ∷ []) ≡ true → IsSound text kind.Punctuator 3
 dots_sound text is = subst (λ xs. IsSound xs kind.Punctuator 3) (sym (starts_split (46 ∷ 46 ∷ 46 ∷ []) text is)) (record { some = lit< tt; fits = omega arith; first = lit< tt; last = lit< tt; right = inr refl })
@@ -101,30 +96,66 @@ number_sound text first =
 
 -- ---- strings
 
-closed_quoted_sound : (text content : List ℕ) → IsSound text kind.Quoted (length content + 2) → Sound text (closed_quoted content)
-closed_quoted_sound text content is = cond_both (run_len SoundItems 0 content == length content) _ _ (Sound text) (λ _. is) (λ _. tt)
+closed_quoted_sound : (text content : List ℕ) → (run_len SoundItems 0 content ≡ length content → IsSound text kind.Quoted (length content + 2)) → Sound text (closed_quoted content)
+closed_quoted_sound text content is = cond_both (run_len SoundItems 0 content == length content) _ _ (Sound text) (λ same. is (eqb-true (run_len SoundItems 0 content) (length content) same)) (λ _. tt)
 
-closed_block_sound : (text content : List ℕ) → IsSound text kind.Block (length content + 6) → Sound text (closed_block content)
-closed_block_sound text content is = cond_both (allowed_len content == length content) _ _ (Sound text) (λ _. is) (λ _. tt)
+closed_block_sound : (text content : List ℕ) → (allowed_len content ≡ length content → IsSound text kind.Block (length content + 6)) → Sound text (closed_block content)
+closed_block_sound text content is = cond_both (allowed_len content == length content) _ _ (Sound text) (λ same. is (eqb-true (allowed_len content) (length content) same)) (λ _. tt)
+
+quoted_right : (content tail : List ℕ) → run_len QuotedItems 0 (content ++ 34 ∷ tail) ≡ length content → run_len SoundItems 0 content ≡ length content → IsTextOf kind.Quoted (take (length content + 2) (34 ∷ (content ++ 34 ∷ tail)))
+quoted_right content tail goes sound =
+    let token = 34 ∷ (content ++ 34 ∷ []) in
+    let whole : token ++ tail ≡ 34 ∷ (content ++ 34 ∷ tail) = ap (λ (xs : List ℕ). 34 ∷ xs) (append_assoc content (34 ∷ []) tail) in
+    let long : length token ≡ length content + 2 = omega (arith, length-append content (34 ∷ [])) in
+    let means = quoted_content-is content tail goes sound in
+    (means.0, record { content = content; token_is = ap (take (length content + 2)) (sym whole) ∙ take_at token tail (length content + 2) long; means = means.1 })
 
 quoted_sound : (text : List ℕ) → Sound (34 ∷ text) (quoted text)
 quoted_sound text =
     let n = run_len QuotedItems 0 text in
     cond_both (starts_with nat_eq (drop n text) (34 ∷ [])) _ _ (Sound (34 ∷ text))
     (λ closes. (
+    let content = take n text in
+    let tail = drop 1 (drop n text) in
     let within : n ≤ length text = (let b = (begins_with (drop n text) 34 closes).0 in omega (arith, length-drop n text)) in
-    let lies = Lies-quoted text n (Token kind.Quoted (length (take n text) + 2)) (ap (λ k. k + 2) (length-take-le n text within)) within closes in
-    closed_quoted_sound (34 ∷ text) (take n text) (record { some = lies.0; fits = lies.1; first = lit< tt; last = lies.2; right = tt })))
+    let long : length content ≡ n = length-take-le n text within in
+    let whole : text ≡ content ++ 34 ∷ tail = sym (take-append-drop n text) ∙ ap (λ (xs : List ℕ). content ++ xs) (starts_split (34 ∷ []) (drop n text) closes) in
+    let lies = Lies-quoted text n (Token kind.Quoted (length content + 2)) (ap (λ k. k + 2) long) within closes in
+    closed_quoted_sound (34 ∷ text) content (λ sound. record {
+      some = lies.0;
+      fits = lies.1;
+      first = lit< tt;
+      last = lies.2;
+      right = subst (λ (xs : List ℕ). IsTextOf kind.Quoted (take (length content + 2) (34 ∷ xs))) (sym whole) (quoted_right content tail (ap (run_len QuotedItems 0) (sym whole) ∙ sym long) sound);
+    })))
     (λ _. tt)
+
+block_right : (content tail : List ℕ) → run_len BlockItems 0 ((content ++ three_quotes) ++ tail) ≡ length content → allowed_len content ≡ length content → IsTextOf kind.Block (take (length content + 6) (three_quotes ++ ((content ++ three_quotes) ++ tail)))
+block_right content tail goes sound =
+    let token = three_quotes ++ (content ++ three_quotes) in
+    let long : length token ≡ length content + 6 = omega (arith, length-append content three_quotes) in
+    let means = block_content-is content tail goes sound in
+    (means.0, record { content = content; token_is = take_at token tail (length content + 6) long; means = means.1 })
 
 block_sound : (text : List ℕ) → Sound (34 ∷ 34 ∷ 34 ∷ text) (block text)
 block_sound text =
     let n = run_len BlockItems 0 text in
     cond_both (starts_with nat_eq (drop n text) (34 ∷ 34 ∷ 34 ∷ [])) _ _ (Sound (34 ∷ 34 ∷ 34 ∷ text))
     (λ closes. (
+    let content = take n text in
+    let tail = drop 3 (drop n text) in
     let within : n ≤ length text = (let b = (begins_with_three (drop n text) 34 closes).0 in omega (arith, length-drop n text)) in
-    let lies = Lies-block text n (Token kind.Block (length (take n text) + 6)) (ap (λ k. k + 6) (length-take-le n text within)) within closes in
-    closed_block_sound (34 ∷ 34 ∷ 34 ∷ text) (take n text) (record { some = lies.0; fits = lies.1; first = lit< tt; last = lies.2; right = tt })))
+    let long : length content ≡ n = length-take-le n text within in
+    let whole : text ≡ (content ++ three_quotes) ++ tail =
+    sym (take-append-drop n text) ∙ ap (λ (xs : List ℕ). content ++ xs) (starts_split three_quotes (drop n text) closes) ∙ sym (append_assoc content three_quotes tail) in
+    let lies = Lies-block text n (Token kind.Block (length content + 6)) (ap (λ k. k + 6) long) within closes in
+    closed_block_sound (34 ∷ 34 ∷ 34 ∷ text) content (λ sound. record {
+      some = lies.0;
+      fits = lies.1;
+      first = lit< tt;
+      last = lies.2;
+      right = subst (λ (xs : List ℕ). IsTextOf kind.Block (take (length content + 6) (34 ∷ 34 ∷ 34 ∷ xs))) (sym whole) (block_right content tail (ap (run_len BlockItems 0) (sym whole) ∙ sym long) sound);
+    })))
     (λ _. tt)
 
 block_by : (rest : List ℕ) → starts_with nat_eq rest (34 ∷ 34 ∷ []) ≡ true → Sound (34 ∷ rest) (block (drop 2 rest))

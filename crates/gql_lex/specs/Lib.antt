@@ -5,6 +5,7 @@ pub mod Numbers
 pub mod Longest
 pub mod Strings
 pub mod Found
+pub mod StringTexts
 pub mod Front
 pub mod Tokens
 pub mod TokenPlaces

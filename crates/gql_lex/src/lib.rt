@@ -7,7 +7,8 @@
 //! Its contract: a lexer stands behind the bytes that are done (`Stands` of specs/Tokens.antt), and
 //! `next` gives what `next_of` defines there. The tokens of a text are determined: the contract of
 //! `tokens_are_determined`. Names and numbers are the longest at their place: that of
-//! `the_longest_are_counted`.
+//! `the_longest_are_counted`. Strings are those of the standard, with its escapes: that of
+//! `strings_are_those_of_the_standard`.
 #![tactic(auto)]
 
 mod laws;
@@ -22,8 +23,8 @@ mod tests;
 mod token;
 
 pub use laws::{
-    every_text_has_tokens, the_longest_are_counted, tokens_are_determined,
-    tokens_stand_in_their_text,
+    every_text_has_tokens, strings_are_those_of_the_standard, the_longest_are_counted,
+    tokens_are_determined, tokens_stand_in_their_text,
 };
 pub use lexer::Lexer;
 pub use token::{LexRefusal, Token, TokenKind};
