@@ -9,6 +9,7 @@ pub mod Quoting
 pub mod Pieces
 pub mod QuotedFront
 pub mod Spaced
+pub mod StringTexts
 pub mod Meant
 pub mod Written
 pub mod Lexed

@@ -1,5 +1,5 @@
 -- What the tokens of a UTF-8 text mean is UTF-8.
-use Rattle.std.proofs.Common.{◌≡◌, ℕ, zero, suc, ◌-◌, ◌*◌, ◌==◌, nat_lt, true, ◌&&◌, ◌||◌, List, [], ◌∷◌, ◌++◌, length, take, drop, map, flat_map, reverse, IsUtf8, inl, inr, refl}
+use Rattle.std.proofs.Common.{◌≡◌, ℕ, zero, suc, ◌-◌, ◌*◌, ◌==◌, nat_lt, true, ◌&&◌, ◌||◌, List, [], ◌∷◌, ◌++◌, length, take, drop, map, flat_map, reverse, Option, Some, None, IsUtf8, inl, inr, refl}
 use Rattle.std.specs.Prelude.{nat_eq, nat_le, unwrap_or}
 use Rattle.std.specs.List.{AllByRecursion as Each, starts_with, prefix_len}
 use Rattle.std.specs.Char.Utf16.{is_high_surrogate, surrogate_pair_char}
@@ -10,20 +10,22 @@ use lib.Utf8.{scalar, scalars}
 use Rattle.gql_lex.specs.declared.token.TokenKind.{TokenKind}
 use Rattle.gql_lex.specs.declared.token.TokenKind.TheVariants as kind
 use Rattle.gql_lex.specs.Tokens.{Lexeme, End, Lexes}
+use Rattle.gql_lex.specs.StringTexts.{simple_escape}
+use Rattle.gql_lex.proofs.Escapes.{by_simple}
 use Rattle.gql_lex.proofs.Lexing.{tokens-utf8}
 use Rattle.gql_doc.specs.StringValue.{escaped, unit, character, unicode, escape, quoted_piece, quoted_value, raw_value, ends_line, with_front, lines, is_blank_line, common_indent, unindented, after_blank_lines, before_blank_lines, joined, block_value, between, value, string_value}
 
 -- ---- characters
 
 -- each is a character
-abbrev Scalars : List ℕ → Type 0
+abbrev pub Scalars : List ℕ → Type 0
 Scalars = Each (λ c. scalar c ≡ true)
 
-from_scalars : (cs : List ℕ) → scalars cs ≡ true → Scalars cs
+pub from_scalars : (cs : List ℕ) → scalars cs ≡ true → Scalars cs
 from_scalars [] h = tt
 from_scalars (c ∷ cs) h = let p = and_parts (scalar c) (scalars cs) h in (p.0, from_scalars cs p.1)
 
-to_scalars : (cs : List ℕ) → Scalars cs → scalars cs ≡ true
+pub to_scalars : (cs : List ℕ) → Scalars cs → scalars cs ≡ true
 to_scalars [] h = refl
 to_scalars (c ∷ cs) h = and_from (scalar c) (scalars cs) h.0 (to_scalars cs h.1)
 
@@ -37,8 +39,11 @@ character_scalar code =
 
 escaped_scalar : (c : ℕ) → scalar c ≡ true → scalar (escaped c) ≡ true
 escaped_scalar c h =
-    let P : ℕ → Type 0 = λ x. scalar x ≡ true in
-    cond_both (c == 98) _ _ P (λ _. refl) (λ _. cond_both (c == 102) _ _ P (λ _. refl) (λ _. cond_both (c == 110) _ _ P (λ _. refl) (λ _. cond_both (c == 114) _ _ P (λ _. refl) (λ _. cond_both (c == 116) _ _ P (λ _. refl) (λ _. h)))))
+    by (simple_escape c) refl
+  where
+    by : (o : Option ℕ) → simple_escape c ≡ o → scalar (unwrap_or o c) ≡ true
+    by None is = h
+    by (Some d) is = by_simple (λ byte character. scalar character ≡ true) refl refl refl refl refl refl refl refl c d is
 
 unicode_scalar : (digits : List ℕ) → scalar (unicode digits).0 ≡ true
 unicode_scalar digits = cond_both (is_high_surrogate (unit digits)) _ _ (λ (p : ℕ × ℕ). scalar p.0 ≡ true) (λ _. character_scalar (surrogate_pair_char (unit digits) (unit (drop 6 digits)))) (λ _. character_scalar (unit digits))
@@ -73,7 +78,7 @@ Each-append P (x ∷ xs) ys h k = (h.0, Each-append P xs ys h.1 k)
 
 -- ---- block strings
 
-raw_scalars : (cs : List ℕ) → Scalars cs → Scalars (raw_value cs)
+pub raw_scalars : (cs : List ℕ) → Scalars cs → Scalars (raw_value cs)
 raw_scalars [] h = tt
 raw_scalars (c ∷ cs) h = cond_both (c == 92 && starts_with nat_eq cs (34 ∷ 34 ∷ 34 ∷ [])) _ _ Scalars (λ _. raw_scalars cs h.1) (λ _. (h.0, raw_scalars cs h.1))
 

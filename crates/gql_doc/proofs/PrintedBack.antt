@@ -6,9 +6,9 @@ use Rattle.std.specs.List.{AllByRecursion as Each}
 use Rattle.gql_lex.specs.Classes.{is_mark as is_lex_mark}
 use Rattle.gql_lex.specs.Tokens.{Lexeme, Whole}
 use Rattle.gql_lex.proofs.Lexing.{IsRight, tokens-right}
-use Rattle.gql_lex.proofs.Texts.{IsPlain, IsPunctuator}
+use Rattle.gql_lex.proofs.Texts.{IsTextOf, IsPunctuator}
 use Rattle.gql_doc.specs.Answer.{Is}
-use Rattle.gql_doc.proofs.Quoting.{quoted_reads_back}
+use Rattle.gql_doc.proofs.QuotedFront.{quoted_reads_back}
 use Rattle.gql_doc.proofs.Pieces.{IsWritten}
 use Rattle.gql_doc.proofs.Spaced.{spaced_lexes}
 use Rattle.gql_doc.proofs.Written.{string-written, IsUtf8-spaced}
@@ -105,7 +105,7 @@ mark_by byte false e is = subst IsWritten (let one : mark byte ≡ mark_piece by
 dots_by : (byte : ℕ) → byte ≡ 46 → IsWritten (mark_piece byte)
 dots_by byte e = subst (λ b. IsWritten (mark_piece b)) (sym e) (inr refl)
 
-written_reprint : (k : TokenKind) (text : List ℕ) → IsPlain k text → IsUtf8 (string_value k text) → IsWritten (reprint_of k text)
+written_reprint : (k : TokenKind) (text : List ℕ) → IsTextOf k text → IsUtf8 (string_value k text) → IsWritten (reprint_of k text)
 written_reprint kind.Punctuator [] (inl is) utf8 = let no = is.2 in absurd (cc)
 written_reprint kind.Punctuator [] (inr is) utf8 = absurd (cc)
 written_reprint kind.Punctuator (byte ∷ rest) (inl is) utf8 =

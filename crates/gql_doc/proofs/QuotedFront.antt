@@ -1,58 +1,92 @@
--- A printed string that stands at the front is found there.
-use Rattle.std.proofs.Common.{◌≡◌, ◌≢◌, ℕ, suc, ◌+◌, ◌/◌, ◌%◌, ◌<◌, ◌≤◌, nat_lt, true, false, List, [], ◌∷◌, ◌++◌, length, flat_map, refl, ap, sym, ◌∙◌, subst, append_assoc, arith, length-append}
+-- A printed string is a quoted string of the standard: it reads back, and where it stands at the front it is found.
+use Rattle.std.proofs.Common.{◌≡◌, ◌≢◌, ℕ, ◌/◌, ◌%◌, ◌<◌, ◌≤◌, ◌==◌, true, false, lit<, List, [], ◌∷◌, ◌++◌, length, flat_map, Some, IsUtf8, inl, inr, refl, ap, sym, ◌∙◌, append_assoc, arith}
 use Rattle.std.specs.Prelude.{nat_eq}
-use Rattle.std.specs.List.{starts_with}
+use Rattle.std.specs.List.{AllByRecursion as Each, starts_with}
 use Rattle.std.specs.Char.{is_ascii_hexdigit}
-use Rattle.std.proofs.lemmas.Bool.{agree_below_at, cond_both, and_left, ne_eqb, ltb-true, ltb-false}
-use Rattle.std.proofs.lemmas.List.{append-nil, length_push}
+use Rattle.std.proofs.lemmas.Bool.{agree_below_at, and_left, ne_eqb, le-ltb, lt-leb, eqb-true, not_from_false, or_from}
+use Rattle.std.proofs.lemmas.Str.{encode_ascii}
 use Rattle.gql_lex.specs.declared.token.TokenKind.TheVariants as kind
-use Rattle.gql_lex.proofs.Contents.{quoted_run, sound_run, quoted_run-plain, sound_run-plain, sound_run-unicode, front-quoted}
+use Rattle.gql_lex.specs.StringTexts.{simple_escape, spelled, Piece, texts, values, is_plain, IsQuotedPiece, IsQuoted, begins_quotes}
+use Rattle.gql_lex.proofs.QuotedTexts.{front-quoted_text}
 use Rattle.gql_lex.proofs.Steps.{Finds}
 use Rattle.gql_doc.specs.Quoting.{hex_of, quoted_byte, quoted_text}
-use Rattle.gql_doc.proofs.Quoting.{by_way}
+use Rattle.gql_doc.specs.StringValue.{string_value}
+use Rattle.gql_doc.proofs.Quoting.{by_way, IsUtf8-quoted_text}
+use Rattle.gql_doc.proofs.StringTexts.{quoted-meant}
 
--- what is printed of a byte is pieces of a string, one after another
-abbrev Runs : (List ℕ → ℕ) → List ℕ → Type 0
-Runs run printed = (rest : List ℕ) → run (printed ++ rest) ≡ length printed + run rest
-
-hex_above : (n : ℕ) → 48 ≤ hex_of n
-hex_above n = cond_both (nat_lt n 10) (48 + n) (87 + n) (λ x. 48 ≤ x) (λ _. omega arith) (λ _. omega arith)
-
-hex_no_backslash : (n : ℕ) → hex_of n ≢ 92
-hex_no_backslash n = cond_both (nat_lt n 10) (48 + n) (87 + n) (λ x. x ≢ 92) (λ h e. (let small = ltb-true n 10 h in omega arith)) (λ h e. (let big = ltb-false n 10 h in omega arith))
+-- what is printed of a byte, which means it
+written : ℕ → List ℕ → Piece
+written b printed = record { text = printed; value = b ∷ [] }
 
 hex_is_digit : (n : ℕ) → n < 16 → is_ascii_hexdigit (hex_of n) ≡ true
 hex_is_digit n small = agree_below_at (λ k. is_ascii_hexdigit (hex_of k)) (λ k. true) 16 n refl small
 
-quoted_hex : (n : ℕ) (rest : List ℕ) → quoted_run (hex_of n ∷ rest) ≡ suc (quoted_run rest)
-quoted_hex n rest = (let above = hex_above n in quoted_run-plain (hex_of n) rest (omega arith) (λ e. omega arith) (hex_no_backslash n))
+control_spelled : (b : ℕ) → b < 32 → spelled 48 48 (hex_of (b / 16)) (hex_of (b % 16)) ≡ b
+control_spelled b small = eqb-true _ b (agree_below_at (λ k. spelled 48 48 (hex_of (k / 16)) (hex_of (k % 16)) == k) (λ k. true) 32 b refl small)
 
-quoted_control : (b : ℕ) → b < 32 → Runs quoted_run (92 ∷ 117 ∷ 48 ∷ 48 ∷ hex_of (b / 16) ∷ hex_of (b % 16) ∷ [])
-quoted_control b small rest =
-    let first = quoted_hex (b / 16) (hex_of (b % 16) ∷ rest) in
-    let second = quoted_hex (b % 16) rest in
-    omega (arith, first, second)
+control_right : (b : ℕ) → b < 32 → IsQuotedPiece (written b (92 ∷ 117 ∷ 48 ∷ 48 ∷ hex_of (b / 16) ∷ hex_of (b % 16) ∷ []))
+unfolding written
+control_right b small = inr (
+  b,
+  inr (inl (record {
+    digits = 48 ∷ 48 ∷ hex_of (b / 16) ∷ hex_of (b % 16) ∷ [];
+    text_is = refl;
+    spells = record {
+      a = 48;
+      b = 48;
+      c = hex_of (b / 16);
+      d = hex_of (b % 16);
+      text_is = refl;
+      digits = (refl, (refl, (hex_is_digit (b / 16) (omega arith), (hex_is_digit (b % 16) (omega arith), tt))));
+      number_is = sym (control_spelled b small);
+    };
+    no_high = and_left _ _ (lt-leb 0xD800 b (omega arith));
+    no_low = and_left _ _ (lt-leb 0xDC00 b (omega arith));
+  })),
+  sym (encode_ascii b (omega arith)),
+)
 
-quoted_runs : (b : ℕ) → Runs quoted_run (quoted_byte b)
-quoted_runs = by_way (λ b. Runs quoted_run) (λ rest. omega arith) (λ rest. omega arith) (λ rest. omega arith) quoted_control
-    (λ b low not_quote not_backslash rest. (let e = quoted_run-plain b rest low not_quote not_backslash in omega (arith, e)))
+plain_right : (b : ℕ) → 32 ≤ b → b ≢ 34 → b ≢ 92 → IsQuotedPiece (written b (b ∷ []))
+unfolding written
+plain_right b low not_quote not_backslash =
+    let plain : is_plain b ≡ true = not_from_false _ (or_from _ _ (ne_eqb b 34 not_quote) (or_from _ _ (ne_eqb b 92 not_backslash)
+    (or_from _ _ (or_from _ _ (ne_eqb b 10 (λ e. omega arith)) (ne_eqb b 13 (λ e. omega arith))) (and_left _ _ (le-ltb b 32 low))))) in
+    inl (b, plain, (refl, refl))
 
-sound_control : (b : ℕ) → b < 32 → Runs sound_run (92 ∷ 117 ∷ 48 ∷ 48 ∷ hex_of (b / 16) ∷ hex_of (b % 16) ∷ [])
-sound_control b small rest = sound_run-unicode (hex_of (b / 16)) (hex_of (b % 16)) rest (hex_is_digit (b / 16) (omega arith)) (hex_is_digit (b % 16) (omega arith))
+simple_right : (b byte : ℕ) → simple_escape byte ≡ Some b → b < 128 → IsQuotedPiece (written b (92 ∷ byte ∷ []))
+unfolding written
+simple_right b byte is small = inr (b, inl (record { byte = byte; text_is = refl; character_is = is }), sym (encode_ascii b small))
 
-sound_runs : (b : ℕ) → Runs sound_run (quoted_byte b)
-sound_runs = by_way (λ b. Runs sound_run) (λ rest. omega arith) (λ rest. omega arith) (λ rest. omega arith) sound_control
-    (λ b low not_quote not_backslash rest. (let e = sound_run-plain b rest low not_backslash in omega (arith, e)))
+byte_right : (b : ℕ) → IsQuotedPiece (written b (quoted_byte b))
+byte_right = by_way (λ b printed. IsQuotedPiece (written b printed)) (simple_right 34 34 refl (lit< tt)) (simple_right 92 92 refl (lit< tt)) (simple_right 10 110 refl (lit< tt)) control_right plain_right
 
--- ---- the whole string
+-- a text that is printed, a byte a piece
+pieces_of : List ℕ → List Piece
+pieces_of [] = []
+pieces_of (b ∷ v) = written b (quoted_byte b) ∷ pieces_of v
 
-all_run : (run : List ℕ → ℕ) → ((b : ℕ) → Runs run (quoted_byte b)) → (v : List ℕ) → Runs run (flat_map quoted_byte v)
-all_run run each [] rest = omega arith
-all_run run each (b ∷ v) rest =
-    let first = each b (flat_map quoted_byte v ++ rest) in
-    let more = all_run run each v rest in
-    let long = length-append (quoted_byte b) (flat_map quoted_byte v) in
-    ap run (append_assoc (quoted_byte b) (flat_map quoted_byte v) rest) ∙ omega (arith, first, more, long)
+pieces_right : (v : List ℕ) → Each IsQuotedPiece (pieces_of v)
+unfolding pieces_of
+pieces_right [] = tt
+pieces_right (b ∷ v) = (byte_right b, pieces_right v)
+
+texts_of : (v : List ℕ) → flat_map quoted_byte v ≡ texts (pieces_of v)
+unfolding pieces_of written
+texts_of [] = refl
+texts_of (b ∷ v) = ap (λ (xs : List ℕ). quoted_byte b ++ xs) (texts_of v)
+
+values_of : (v : List ℕ) → v ≡ values (pieces_of v)
+unfolding pieces_of written
+values_of [] = refl
+values_of (b ∷ v) = ap (λ (xs : List ℕ). b ∷ xs) (values_of v)
+
+-- a text that is printed is a quoted string, which means it
+quoted_text-is : (v : List ℕ) → IsQuoted (quoted_text v) v
+quoted_text-is v = record { content = flat_map quoted_byte v; token_is = refl; means = record { pieces = pieces_of v; right = pieces_right v; content_is = texts_of v; value_is = values_of v } }
+
+-- a text that is printed reads back
+pub quoted_reads_back : (v : List ℕ) → IsUtf8 v → string_value kind.Quoted (quoted_text v) ≡ v
+quoted_reads_back v utf8 = quoted-meant (quoted_text v) v (IsUtf8-quoted_text v utf8) (quoted_text-is v)
 
 -- what is printed begins with no quote
 no_quote : (b : ℕ) (rest : List ℕ) → starts_with nat_eq (quoted_byte b ++ rest) (34 ∷ 34 ∷ []) ≡ false
@@ -66,9 +100,4 @@ single (b ∷ v) tail alone = ap (λ xs. starts_with nat_eq xs (34 ∷ 34 ∷ []
 -- a printed string that no quote follows is found
 pub finds-quoted_text : (v tail : List ℕ) → starts_with nat_eq (34 ∷ tail) (34 ∷ 34 ∷ []) ≡ false → Finds (quoted_text v ++ tail) kind.Quoted (length (quoted_text v))
 finds-quoted_text v tail alone =
-    let content = flat_map quoted_byte v in
-    let goes : quoted_run (content ++ 34 ∷ tail) ≡ length content = all_run quoted_run quoted_runs v (34 ∷ tail) ∙ omega arith in
-    let sound : sound_run content ≡ length content = ap sound_run (sym (append-nil content)) ∙ all_run sound_run sound_runs v [] ∙ omega arith in
-    let long : suc (length (content ++ 34 ∷ [])) ≡ length content + 2 = omega (arith, length_push content 34) in
-    subst (λ xs. Finds (34 ∷ xs) kind.Quoted (length (quoted_text v))) (sym (append_assoc content (34 ∷ []) tail))
-    (subst (λ n. Finds (34 ∷ (content ++ 34 ∷ tail)) kind.Quoted n) (sym long) (front-quoted content tail goes sound (single v tail alone)))
+    front-quoted_text (quoted_text v) tail v (quoted_text-is v) (ap (λ xs. begins_quotes (34 ∷ xs)) (append_assoc (flat_map quoted_byte v) (34 ∷ []) tail) ∙ single v tail alone)

@@ -1,17 +1,11 @@
 -- A string that is printed reads back.
-use Rattle.std.proofs.Common.{◌≡◌, ◌≢◌, ℕ, suc, ◌+◌, ◌-◌, ◌/◌, ◌%◌, ◌<◌, ◌≤◌, ◌==◌, nat_lt, Bool, true, false, ◌&&◌, ◌||◌, lit<, List, [], ◌∷◌, ◌++◌, length, get_or, flat_map, IsUtf8, inl, inr, refl, ap, sym, ◌∙◌, subst, arith}
-use Rattle.std.specs.Prelude.{nat_le}
-use Rattle.std.specs.Str.{chars, encode_utf8_all}
-use Rattle.std.specs.Char.Utf16.{is_high_surrogate}
+use Rattle.std.proofs.Common.{◌≡◌, ◌≢◌, ℕ, suc, ◌+◌, ◌/◌, ◌%◌, ◌<◌, ◌≤◌, ◌==◌, nat_lt, true, lit<, List, [], ◌∷◌, ◌++◌, length, get_or, flat_map, IsUtf8, inl, inr, refl, ap, sym, ◌∙◌, subst, arith}
 use Rattle.std.specs.List.{AllByRecursion}
-use Rattle.std.proofs.lemmas.Bool.{agree_below_at, cond_both, cond-true, cond-false, or_left, and_from, eqb-true, eqb-false, ltb-true, ltb-false, and_parts, cases_lt, ne_eqb, le-ltb}
-use Rattle.std.proofs.lemmas.Bool.Decides.{nat_tests}
-use Rattle.std.proofs.lemmas.List.{append-nil, take_at, length_push}
-use Rattle.std.proofs.lemmas.Str.{chars-encodes, encodes-append, encode_ascii, inside_one}
+use Rattle.std.proofs.lemmas.Bool.{cond_both, cond-false, and_from, eqb-true, eqb-false, ltb-true, ltb-false, and_parts, cases_lt, ne_eqb, le-ltb}
+use Rattle.std.proofs.lemmas.List.{append-nil}
+use Rattle.std.proofs.lemmas.Str.{encodes-append, encode_ascii, inside_one}
 use Rattle.std.proofs.lemmas.Grind.{flat_map-append}
 use lib.Utf8.{scalar, scalars, encode, encodes, low_scalar}
-use Rattle.gql_lex.specs.declared.token.TokenKind.TheVariants as kind
-use Rattle.gql_doc.specs.StringValue.{unit, character, unicode, escape, quoted_value, between, value, string_value}
 use Rattle.gql_doc.specs.Quoting.{hex_of, quoted_byte, quoted_text}
 
 -- what is so of each of the ways in which a byte is printed is so of a printed byte
@@ -26,43 +20,6 @@ by_way P quote backslash line_feed control other b =
     (λ not_backslash. cond_both (b == 10) _ _ (P b) (λ e. subst (λ c. P c (92 ∷ 110 ∷ [])) (sym (eqb-true b 10 e)) line_feed)
     (λ _. cond_both (nat_lt b 32) _ _ (P b) (λ e. control b (ltb-true b 32 e))
     (λ high. other b (ltb-false b 32 high) (eqb-false b 34 not_quote) (eqb-false b 92 not_backslash)))))
-
--- ---- the characters of a printed string
-
--- four digits that spell a number this small stand for it
-unit_plain : (digits : List ℕ) (u : ℕ) → unit digits ≡ u → u < 32 → unicode digits ≡ (u, 5)
-unit_plain digits u is small =
-    let low : is_high_surrogate u ≡ false = grind (arith, nat_tests) in
-    let first : nat_lt u 0xD800 ≡ true = grind (arith, nat_tests) in
-    cond-false (is_high_surrogate (unit digits)) _ _ (ap is_high_surrogate is ∙ low)
-    ∙ ap (λ (c : ℕ). let p : ℕ × ℕ = (character c, 5) in p) is
-    ∙ ap (λ (c : ℕ). let p : ℕ × ℕ = (c, 5) in p) (cond-true (nat_lt u 0xD800 || nat_le 0xE000 u && nat_lt u 0x11_0000) u 0xFFFD (or_left _ _ first))
-
-abbrev spells : ℕ → Bool
-spells b = unit (48 ∷ 48 ∷ hex_of (b / 16) ∷ hex_of (b % 16) ∷ []) == b
-
-abbrev Reads : ℕ → List ℕ → Type 0
-Reads c printed = (rest : List ℕ) → quoted_value 0 (printed ++ rest) ≡ c ∷ quoted_value 0 rest
-
-by_unicode : List ℕ → ℕ × ℕ → List ℕ
-by_unicode digits piece = piece.0 ∷ quoted_value piece.1 (117 ∷ digits)
-
-control_reads : (b : ℕ) → b < 32 → Reads b (92 ∷ 117 ∷ 48 ∷ 48 ∷ hex_of (b / 16) ∷ hex_of (b % 16) ∷ [])
-unfolding by_unicode
-control_reads b small rest =
-    let digits = 48 ∷ 48 ∷ hex_of (b / 16) ∷ hex_of (b % 16) ∷ rest in
-    ap (by_unicode digits) (unit_plain digits b (eqb-true _ b (agree_below_at spells (λ n. true) 32 b refl small)) small)
-
-other_reads : (c : ℕ) → c ≢ 92 → Reads c (c ∷ [])
-other_reads c ne rest = ap (λ (p : ℕ × ℕ). p.0 ∷ quoted_value p.1 rest) (cond-false (c == 92) (escape rest) (c, 0) (ne_eqb c 92 ne))
-
-char_reads : (c : ℕ) → Reads c (quoted_byte c)
-char_reads = by_way Reads (λ rest. refl) (λ rest. refl) (λ rest. refl) control_reads (λ c low not_quote not_backslash. other_reads c not_backslash)
-
--- what stands between the quotes reads back, a character at a time
-all_read : (cs : List ℕ) → quoted_value 0 (flat_map quoted_byte cs) ≡ cs
-all_read [] = refl
-all_read (c ∷ cs) = char_reads c (flat_map quoted_byte cs) ∙ ap (λ l. c ∷ l) (all_read cs)
 
 -- ---- its bytes
 
@@ -98,7 +55,7 @@ high_printed : (xs : List ℕ) → ((k : ℕ) → k < length xs → 128 ≤ get_
 high_printed [] h = refl
 high_printed (x ∷ xs) h = ap (λ l. l ++ flat_map quoted_byte xs) (high_plain x (h 0 (omega arith))) ∙ ap (λ l. x ∷ l) (high_printed xs (λ k below. h (suc k) (omega arith)))
 
-encode_high : (c : ℕ) → 128 ≤ c → (k : ℕ) → k < length (encode c) → 128 ≤ get_or (encode c) k 0
+pub encode_high : (c : ℕ) → 128 ≤ c → (k : ℕ) → k < length (encode c) → 128 ≤ get_or (encode c) k 0
 encode_high c big k below = elim (cases_lt (get_or (encode c) k 0) 128) [
   | inl low ↦ absurd (let e = inside_one c [] (encode c) k (sym (append-nil (encode c))) below low in omega arith)
   | inr high ↦ high
@@ -148,18 +105,3 @@ quoted_scalars cs h = scalars-append (flat_map quoted_byte cs) (34 ∷ []) (all_
 -- a text is printed as a text
 pub IsUtf8-quoted_text : (v : List ℕ) → IsUtf8 v → IsUtf8 (quoted_text v)
 IsUtf8-quoted_text v u = (quoted_text u.0, (quoted_scalars u.0 u.1.0, sym (quoted_text-encodes u.0) ∙ ap quoted_text u.1.1))
-
--- what stands between one mark and one mark
-between_one : (a b : ℕ) (xs : List ℕ) → between 1 (a ∷ (xs ++ b ∷ [])) ≡ xs
-between_one a b xs = take_at xs (b ∷ []) (suc (length (xs ++ b ∷ [])) - 2) (omega (arith, length_push xs b))
-
--- a text that is printed reads back
-pub quoted_reads_back : (v : List ℕ) → IsUtf8 v → string_value kind.Quoted (quoted_text v) ≡ v
-quoted_reads_back v u =
-    let cs = u.0 in
-    let printed : quoted_text v ≡ encodes (quoted_text cs) = ap quoted_text (sym u.1.1) ∙ quoted_text-encodes cs in
-    ap (λ bs. encode_utf8_all (value kind.Quoted (chars bs))) printed
-    ∙ ap (λ l. encode_utf8_all (quoted_value 0 (between 1 l))) (chars-encodes (quoted_text cs) (quoted_scalars cs u.1.0))
-    ∙ ap (λ l. encode_utf8_all (quoted_value 0 l)) (between_one 34 34 (flat_map quoted_byte cs))
-    ∙ ap encode_utf8_all (all_read cs)
-    ∙ u.1.1

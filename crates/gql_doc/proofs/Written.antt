@@ -10,7 +10,7 @@ use Rattle.gql_lex.specs.Classes.{begins_name, continues_name, is_mark}
 use Rattle.gql_lex.specs.Longest.{Each, IsName, IsMinus, IsWhole}
 use Rattle.gql_lex.specs.Tokens.{Lexeme, End, Lexes}
 use Rattle.gql_lex.proofs.Lexing.{IsRight, tokens-right}
-use Rattle.gql_lex.proofs.Texts.{IsInteger, IsPunctuator, IsPlain}
+use Rattle.gql_lex.proofs.Texts.{IsInteger, IsPunctuator, IsTextOf}
 use Rattle.gql_doc.specs.Marks.{is_name, is_name_kind, is_number, is_number_kind, is_string, is_string_kind}
 use Rattle.gql_doc.specs.Quoting.{quoted_text}
 use Rattle.gql_doc.specs.Pieces.{Piece, piece, spaced}
@@ -19,7 +19,7 @@ use Rattle.gql_doc.proofs.Quoting.{AreAscii, encodes_ascii, scalars_ascii, IsUtf
 
 -- ---- what the lexer gives
 
-by_kind : (kind : TokenKind) (text : List ℕ) → IsPlain kind text → is_string_kind kind ≡ false → IsText kind text
+by_kind : (kind : TokenKind) (text : List ℕ) → IsTextOf kind text → is_string_kind kind ≡ false → IsText kind text
 by_kind kind.Name text is other = is
 by_kind kind.Int text is other = is
 by_kind kind.Punctuator text is other = is
@@ -39,14 +39,14 @@ tokens-written text tokens end lexes = each tokens (tokens-right [] text tokens 
 
 -- ---- what the grammar takes
 
-name_by : (kind : TokenKind) (text : List ℕ) → IsPlain kind text → is_name_kind kind ≡ true → IsName text
+name_by : (kind : TokenKind) (text : List ℕ) → IsTextOf kind text → is_name_kind kind ≡ true → IsName text
 name_by kind.Name text is class = is
 name_by kind.Int text is class = absurd (cc)
 name_by kind.Punctuator text is class = absurd (cc)
 name_by kind.Quoted text is class = absurd (cc)
 name_by kind.Block text is class = absurd (cc)
 
-number_by : (kind : TokenKind) (text : List ℕ) → IsPlain kind text → is_number_kind kind ≡ true → IsInteger text
+number_by : (kind : TokenKind) (text : List ℕ) → IsTextOf kind text → is_number_kind kind ≡ true → IsInteger text
 number_by kind.Name text is class = absurd (cc)
 number_by kind.Int text is class = is
 number_by kind.Punctuator text is class = absurd (cc)

@@ -5,20 +5,15 @@ use Rattle.std.specs.Char.{digit_value}
 use Rattle.std.specs.Char.Utf16.{is_high_surrogate, surrogate_pair_char}
 use Rattle.std.specs.List.{starts_with, prefix_len, list_all}
 use Rattle.std.specs.Str.{chars, encode_utf8_all}
+use Rattle.gql_lex.specs.StringTexts.{simple_escape}
 use Rattle.gql_lex.specs.declared.token.TokenKind.{TokenKind}
 use Rattle.gql_lex.specs.declared.token.TokenKind.TheVariants as kind
 
 -- ---- quoted strings
 
--- behind a backslash, `b`, `f`, `n`, `r` and `t` stand for a control character, and any other character for itself
+-- what a character behind a backslash stands for; one that begins no escape, which a token has not, for itself
 abbrev pub escaped : ℕ → ℕ
-escaped c =
-    if c == 98 then 8
-    else (if c == 102 then 12
-    else (if c == 110 then 10
-    else (if c == 114 then 13
-    else (if c == 116 then 9
-    else c))))
+escaped c = unwrap_or (simple_escape c) c
 
 -- the value of a hexadecimal digit; a token has no other character there
 abbrev pub hex_digit : ℕ → ℕ
@@ -114,9 +109,13 @@ abbrev pub joined : List (List ℕ) → List ℕ
 joined [] = []
 joined (line ∷ lines) = line ++ flat_map (λ next. 10 ∷ next) lines
 
--- BlockStringValue of the standard
+-- BlockStringValue of the standard, of a raw text
+abbrev pub block_string_value : List ℕ → List ℕ
+block_string_value raw = joined (before_blank_lines (after_blank_lines (unindented (lines raw))))
+
+-- what the content of a block string means
 abbrev pub block_value : List ℕ → List ℕ
-block_value content = joined (before_blank_lines (after_blank_lines (unindented (lines (raw_value content)))))
+block_value content = block_string_value (raw_value content)
 
 -- ---- tokens
 

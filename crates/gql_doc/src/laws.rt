@@ -1,9 +1,10 @@
 //! Laws of the definitions, each the contract of a function that does nothing.
 
 ghost use Rattle.std.specs.Prelude.{◌≡◌, ◌≢◌, ◌≤◌, ℕ, List, length, Result, Err};
-ghost use Rattle.std.specs.Str.{IsUtf8};
+ghost use Rattle.std.specs.Str.{IsUtf8, chars, encode_utf8_all};
+ghost use Rattle.gql_lex.specs.StringTexts.{IsQuoted, IsBlock};
 ghost use Rattle.gql_lex.specs.declared.token.TokenKind.TheVariants as kind;
-ghost use Rattle.gql_doc.specs.StringValue.{string_value};
+ghost use Rattle.gql_doc.specs.StringValue.{block_string_value, string_value};
 ghost use Rattle.gql_doc.specs.Quoting.{quoted_text};
 ghost use Rattle.gql_doc.specs.Answer.{Answers, Is, most_bytes};
 ghost use Rattle.gql_doc.specs.declared.refusal.ParseRefusal.{ParseRefusal};
@@ -11,6 +12,14 @@ ghost use Rattle.gql_doc.specs.declared.refusal.ParseRefusal.TheVariants as refu
 ghost use Rattle.gql_doc.specs.Printed.{print_text};
 ghost use Rattle.gql_doc.specs.Unplaced.{unplaced};
 ghost use Rattle.gql_model.specs.declared.syntax.Document.{Document};
+
+/// What a string token means is what the standard says: of a quoted string its value, and of a block
+/// string the BlockStringValue of its raw text.
+pub fn strings_mean_what_the_standard_says()
+    ensures quoted { (token value : List ℕ) → IsUtf8 token → IsQuoted token value → string_value kind.Quoted token ≡ value }
+    ensures block { (token raw : List ℕ) → IsUtf8 token → IsBlock token raw →
+        string_value kind.Block token ≡ encode_utf8_all (block_string_value (chars raw)) }
+{}
 
 /// A text that is printed as a string reads back.
 pub fn a_printed_string_reads_back()

@@ -8,7 +8,8 @@
 //!
 //! `print` writes a document (specs/Printed.antt), and what it writes is that document again: the
 //! contract of `a_printed_document_reads_back`. `string_value` says what a string token means
-//! (specs/StringValue.antt).
+//! (specs/StringValue.antt), which is what the standard says of it: the contract of
+//! `strings_mean_what_the_standard_says`.
 #![tactic(auto)]
 
 mod block_string;
@@ -28,7 +29,10 @@ mod tokens;
 mod values;
 mod variables;
 
-pub use laws::{a_printed_document_reads_back, a_printed_string_reads_back, a_text_has_one_answer};
+pub use laws::{
+    a_printed_document_reads_back, a_printed_string_reads_back, a_text_has_one_answer,
+    strings_mean_what_the_standard_says,
+};
 pub use parsing::parse;
 pub use printing::print;
 pub use refusal::ParseRefusal;

@@ -6,7 +6,7 @@ pub const DOCUMENT_BYTES: u64 = 1_048_576;
 /// Bytes of a file of the schema, the tables or the variables.
 pub const FILE_BYTES: u64 = 67_108_864;
 
-/// Braces, brackets and parentheses that are open at one place of a document.
+/// Braces and brackets that are open at one place of a document, all kinds counted together.
 pub const SYNTAX_NESTING: u32 = 128;
 
 /// Fields, spreads and inline fragments of an operation once its spreads are expanded.
