@@ -1,20 +1,13 @@
 -- What a client takes, part by part.
-use Rattle.std.proofs.Common.{◌≡◌, ◌≢◌, refl, sym, ap, ◌∙◌, subst, inl, inr, arith, append_assoc, append-nil, length-append, Bor, ℕ, ◌+◌, List, [], ◌∷◌, ◌++◌, length, Result, Ok, Err, IsOk, IsErr, IfOk, IsUtf8, Bool, true, false, not, None, Some}
+use Rattle.std.proofs.Common.{◌≡◌, ◌≢◌, refl, sym, ap, ◌∙◌, subst, inl, inr, arith, append_assoc, append-nil, length-append, Bor, ℕ, ◌+◌, List, [], ◌∷◌, ◌++◌, length, Result, Ok, Err, IsOk, IsErr, IfOk, Bool, true, false, not, None, Some}
 use Rattle.std.specs.Prelude.{codes}
-use Rattle.serde_json.specs.Data.{Data}
-use Rattle.serde_json.specs.Find.{as_object}
-use Rattle.serde_json.specs.Read.{read}
-use Rattle.gql_tree.specs.declared.delivery.Payload.{Payload}
-use Rattle.gql_payload.specs.declared.read.PayloadRefusal.{PayloadRefusal}
-use Rattle.gql_payload.specs.declared.read.PayloadRefusal.TheVariants as payload
-use Rattle.gql_payload.specs.Reading.{IsJson, IsJsonObject, wrong_member}
 use Rattle.gql_tree.specs.Frame.{crlf}
 use Rattle.gql_multipart.specs.Body.{IsBoundary, dashes, mark, IsPart, Body, Complete, IsOpen}
 use Rattle.gql_multipart.specs.declared.reader.FrameRefusal.{FrameRefusal}
 use Rattle.gql_multipart.specs.declared.reader.FrameRefusal.TheVariants.{At, NoMemory as OutOfMemory}
 use Rattle.gql_multipart.specs.declared.reader.Step.{Step}
 use Rattle.gql_multipart.specs.declared.reader.Step.TheVariants.{Part}
-use Rattle.gql_multipart.specs.Past.{Past, Kept, Stands as ReaderStands, begun, fed, IsEnd, after, said, gives, more, ended, IsAnswer}
+use Rattle.gql_multipart.specs.Past.{Past, Stands as ReaderStands, begun, fed, IsEnd, after, said, gives, more, ended, IsAnswer}
 use Rattle.gql_multipart.proofs.PartLists.{parts_split, parts_more, begins-length}
 use Rattle.gql_multipart.proofs.Standing.{quiet}
 use Rattle.gql_multipart.proofs.Unique.{parts_one}
@@ -29,19 +22,8 @@ use Rattle.gql_tool.specs.declared.client.Stop.{Stop}
 use Rattle.gql_tool.specs.declared.client.Stop.TheVariants.{Refused, NoMemory}
 use Rattle.gql_tool.specs.declared.client.ClientRefusal.{ClientRefusal}
 use Rattle.gql_tool.specs.declared.client.ClientRefusal.TheVariants as answer
-use Rattle.gql_tool.specs.Client.{counted, at_end, Undecoded, Takes, Follows, AreComplete, AreAll, Refuses, AcceptsEnd, RefusesEnd}
+use Rattle.gql_tool.specs.Client.{counted, at_end, Takes, Follows, AreComplete, AreAll, Refuses, AcceptsEnd, RefusesEnd}
 use Rattle.gql_tool.specs.Heard.{Heard, heard, nothing_heard, past_of, Took, Stands, IsMisframedBy, IsRefused, IsRefusedAtEnd, answer_of}
-
--- a text that `decode` refused
-pub Undecoded-err : (text : List ℕ) (r : Result Payload PayloadRefusal) (e : PayloadRefusal) → r ≡ Err e → (e ≢ payload.NoMemory)
-    → (r ≡ Err payload.NotJson → IsUtf8 text → read text ≡ None)
-    → (r ≡ Err payload.NotAnObject → (d : Data) × IsJson text d × (as_object d ≡ None))
-    → ((member : List ℕ) → r ≡ Err (payload.Wrong member) → (d : Data) × IsJsonObject text d × (wrong_member d ≡ Some member))
-    → Undecoded text e
-Undecoded-err text r payload.NotJson is some not_json not_an_object wrong = not_json is
-Undecoded-err text r payload.NotAnObject is some not_json not_an_object wrong = not_an_object is
-Undecoded-err text r (payload.Wrong member) is some not_json not_an_object wrong = wrong member is
-Undecoded-err text r payload.NoMemory is some not_json not_an_object wrong = absurd (some refl)
 
 -- a refusal that isn't want of memory
 pub OnRefusal-err : (T : Type 0) (r : Result T MergeRefusal) (e : MergeRefusal) (P : MergeRefusal → Type 0) → r ≡ Err e → (e ≢ merge.NoMemory) → OnRefusal r P → P e
@@ -107,7 +89,7 @@ next_complete boundary bytes content before contents b complete same are =
     subst (λ (cs : List (List ℕ)). Complete boundary bytes (cs ++ content ∷ [])) (same_parts boundary bytes before contents b (Complete-before boundary bytes content before complete) are same) complete
 
 -- what was complete stays so
-AreComplete-more : (boundary bytes piece : List ℕ) (contents : List (List ℕ)) → AreComplete boundary bytes contents → AreComplete boundary (bytes ++ piece) contents
+pub AreComplete-more : (boundary bytes piece : List ℕ) (contents : List (List ℕ)) → AreComplete boundary bytes contents → AreComplete boundary (bytes ++ piece) contents
 AreComplete-more boundary bytes piece contents (inl none) = inl none
 AreComplete-more boundary bytes piece contents (inr (rest, (o, after, opening, parts, cut))) =
     inr (rest ++ piece, (o, after ++ piece, opening, parts_more boundary contents rest after piece parts, ap (λ (xs : List ℕ). xs ++ piece) cut ∙ append_assoc o after piece))
@@ -274,21 +256,6 @@ pub ok_of : (r : Result Bool Stop) (t now : Bool) → r ≡ Ok t → t ≡ now �
 ok_of r t now is same = is ∙ ap (λ (b : Bool). (let y : Result Bool Stop = Ok b in y)) same
 
 -- ---- the calls
-
--- all parts that the bytes complete were taken
-pub Stands-fed : (c mid new : Client) (h : Heard) (piece : List ℕ) → Stands c h
-    → ((h : Heard) (contents : List (List ℕ)) → Took c h contents → (more : List (List ℕ)) × Took mid (heard h piece) more × AreAll h.boundary (h.bytes ++ piece) more × IsOpen h.boundary (h.bytes ++ piece))
-    → new.reader ≡ mid.reader → new.merger ≡ mid.merger → new.payloads ≡ mid.payloads → new.stop ≡ c.stop
-    → Stands new (heard h piece)
-Stands-fed c mid new h piece stands taken reader merger payloads stop =
-    let t = taken h stands.contents stands.took in
-    record {
-      going = stop ∙ stands.going;
-      contents = t.0;
-      took = kept_took mid new (heard h piece) t.0 t.1 (subst (λ (k : Kept). ReaderStands k (past_of (heard h piece) (length t.0))) (sym reader) t.1.reader) merger payloads;
-      all = t.2;
-      is_open = t.3;
-    }
 
 -- a stop whose answer is a refusal
 refused_by : (stop : Stop) (a : ClientRefusal) → a ≡ answer_of stop → a ≡ answer.Refused → (why : List ℕ) × (stop ≡ Refused why)

@@ -17,6 +17,7 @@ use Rattle.gql_multipart.proofs.Fronts.{front_open, front_parts}
 use Rattle.gql_merge.specs.declared.state.State.{State}
 use Rattle.gql_merge.specs.Apply.{fresh}
 use Rattle.gql_merge.specs.Report.{report_with}
+use Rattle.gql_merge.specs.Same.{IsTypedState}
 use Rattle.gql_merge.specs.Lone.{IsLone}
 use Rattle.gql_merge.specs.Merging.{SamePayloads, HasMerged}
 use Rattle.gql_merge.proofs.Lone.{lone_served}
@@ -60,9 +61,9 @@ module _ (f : Forest) (lone : IsLone f) (p : Payload) (ps : List Payload) (are :
   abbrev whole : List ℕ
   whole = frame (map payload_text (p ∷ ps))
 
-  -- of a body that it accepted it has the defined response
-  pub merges_all : Each IsReadable (p ∷ ps) → Each IsWritten (p ∷ ps) → Each Fits (map payload_text (p ∷ ps)) → (t : State) → Merges dash whole t → HasMerged f t
-  merges_all readable written fit t (contents, complete, all, follows) =
+  -- of a body that it accepted it has the defined response, where its state is one that can exist
+  pub merges_all : Each IsReadable (p ∷ ps) → Each IsWritten (p ∷ ps) → Each Fits (map payload_text (p ∷ ps)) → (t : State) → IsTypedState t → Merges dash whole t → HasMerged f t
+  merges_all readable written fit t typed (contents, complete, all, follows) =
       let texts = map payload_text (p ∷ ps) in
       let lines = payload_lines (p ∷ ps) in
       let first = first_of (payload_text p) (map payload_text ps) whole [] contents lines fit (append-nil whole) complete in
@@ -70,7 +71,7 @@ module _ (f : Forest) (lone : IsLone f) (p : Payload) (ps : List Payload) (are :
       let every : length texts ≤ length contents = all texts (_, body.2) in
       let same : contents ≡ texts = none_more contents first.0 texts first.1 every in
       let heard = Follows-taken 0 (p ∷ ps) texts fresh t (all_read (p ∷ ps) readable written) (subst (λ (cs : List (List ℕ)). Follows 0 cs fresh t None) same follows) in
-      (lone_served f lone).1 heard.0 t (subst (λ xs. SamePayloads xs heard.0) (sym are) heard.1) heard.2
+      (lone_served f lone).1 heard.0 t (subst (λ xs. SamePayloads xs heard.0) (sym are) heard.1) heard.2 typed
 
   -- it refuses no front of it
   pub refuses_none : (before after : List Payload) → p ∷ ps ≡ before ++ after → Each IsReadable before → Each IsWritten before → (q : Payload) (qs : List Payload) → before ≡ q ∷ qs → Each Fits (map payload_text before)

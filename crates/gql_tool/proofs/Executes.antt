@@ -1,11 +1,12 @@
 -- How a request that is executed ends: what is written, and what the client is.
-use Rattle.std.proofs.Common.{◌≡◌, refl, sym, ap, ◌∙◌, subst, inl, inr, ℕ, ◌<◌, append_assoc, append-nil, zero-add, List, [], ◌∷◌, ◌++◌, length, map, Option, Result, Ok, Err, IfErr}
+use Rattle.std.proofs.Common.{◌≡◌, refl, sym, ap, ◌∙◌, subst, inl, inr, ℕ, ◌<◌, append_assoc, append-nil, zero-add, List, [], ◌∷◌, ◌++◌, length, map, Option, Result, Ok, Err}
 use Rattle.std.specs.Prelude.{◌⊎◌, codes}
 use Rattle.std.specs.List.{AllByRecursion as Each}
 use Rattle.std.specs.Result.{IsErrAnd}
 use Rattle.std.proofs.lemmas.List.{map-append}
-use Rattle.std.proofs.KnownBytes.{Appends-trans}
-use Rattle.gql_io.specs.Told.{AppendsPrefix, Puts}
+use Rattle.std.specs.Io.KnownBytes.{Appends, Keeps}
+use Rattle.std.proofs.KnownBytes.{Appends-trans, Appends-kept}
+use Rattle.gql_io.specs.Told.{AppendsPrefix}
 use Rattle.gql_io.proofs.Told.{Prefix-after, Prefix-within}
 use Rattle.gql_tree.specs.declared.Payload.{Payload}
 use Rattle.gql_tree.specs.Forest.{Forest, region, branches}
@@ -15,6 +16,7 @@ use Rattle.gql_tree.specs.Frame.{frame}
 use Rattle.gql_payload.specs.ReportText.{report_text}
 use Rattle.gql_merge.specs.Lone.{IsLone}
 use Rattle.gql_merge.specs.Merging.{HasMerged}
+use Rattle.gql_merge.specs.Same.{IsTypedState}
 use Rattle.gql_tool.specs.declared.status.Status.{Status}
 use Rattle.gql_tool.specs.declared.status.Status.TheVariants.{Done, WriteFault, NoMemory, StreamRefused}
 use Rattle.gql_tool.specs.declared.shape.HeroDocument.{HeroDocument}
@@ -24,8 +26,8 @@ use Rattle.gql_tool.specs.declared.client.Client.{Client}
 use Rattle.gql_tool.specs.Client.{counted}
 use Rattle.gql_tool.specs.Heard.{nothing_heard, IsRefused}
 use Rattle.gql_multipart.specs.Framed.{so_far}
-use Rattle.gql_tool.specs.Hero.{EachOnce, RefStands, IsPlaced}
-use Rattle.gql_tool.specs.Handed.{Goes, HearsFront, Reached, Stopped, HandedAll}
+use Rattle.gql_tool.specs.Hero.{EachOnce, RefStands, IsPlaced, TablesFit}
+use Rattle.gql_tool.specs.Handed.{Goes, HearsFront, Reached, Stopped, HandedAll, PutsLine}
 use Rattle.gql_tool.specs.Local.{part_limit, Fits, regions, texts, body, IsMergedLine, up_to, Answered}
 use Rattle.gql_tool.specs.LocalClient.{dash, IsNew, StandsFor, TookBody, TookFront, RefusedBody, ClientEnds}
 use Rattle.gql_tool.specs.Meets.{Meets, Front, ended}
@@ -34,6 +36,7 @@ use Rattle.gql_tool.specs.Replay.{merged_line}
 use Rattle.gql_tool.proofs.Bodies.{TooLong as TooLongIn, all_fit_or, payload_lines, so_far_fits, frame_fits, fits_or, each-snoc, each-front, each-join, up_to-frame, up_to-later, up_to-single, snoc, some_first}
 use Rattle.gql_tool.proofs.Executed.{IsReadable, all_readable, merges_all, refuses_none, line_merged}
 use Rattle.gql_tool.proofs.HeroForests.{hero_is_lone}
+use Rattle.gql_tool.proofs.Sent.{Prefix-all}
 use Rattle.gql_tool.proofs.HeroSound.{hero_payloads_make_sense, hero_payloads_are_shallow}
 use Rattle.gql_tool.proofs.HeroResponses.{hero_has_a_response}
 use Rattle.gql_merge.proofs.Responses.{HasResponse}
@@ -47,7 +50,7 @@ apart text (inr long) none = long
 line_of : (f : Forest) → HasResponse f → (line : List ℕ) × IsMergedLine f line
 line_of f (value, errors, failures, merged) = (codes "merged " ++ (report_text value errors failures ++ 10 ∷ []), record { value = value; errors = errors; failures = failures; merged = merged; is_line = refl })
 
-module _ (t : HeroTables) (d : HeroDocument) (once : EachOnce d) (stands : RefStands t) (placed : IsPlaced d) where
+module _ (t : HeroTables) (d : HeroDocument) (once : EachOnce d) (stands : RefStands t) (placed : IsPlaced d) (tables_fit : TablesFit t) where
   abbrev payloads : List Payload
   payloads = first_payloads (regions t d)
 
@@ -75,12 +78,16 @@ module _ (t : HeroTables) (d : HeroDocument) (once : EachOnce d) (stands : RefSt
       → Answered (Built t d) (record { status = StreamRefused; bytes = up_to before text after })
   cut_off_way before text after all fit long = inr (record { before = before; text = text; after = after; all = all; fit = fit; too_long = long; is = refl })
 
+  -- the line of its response
+  line_there : (line : List ℕ) × IsMergedLine (regions t d) line
+  line_there = line_of (regions t d) (hero_has_a_response t d once stands tables_fit)
+
   -- what was put is a front of what a right outcome writes
   module _ (a b : Option (List ℕ)) where
     front_by : (before : List (List ℕ)) (text : List ℕ) (after : List (List ℕ)) → texts t d ≡ before ++ text ∷ after → Each Fits before → AppendsPrefix a b (up_to before text after)
         → Each Fits (text ∷ after) ⊎ TooLongIn (text ∷ after) → Front (Answered (Built t d)) a b
     front_by before text after all fit some (inl rest) =
-        let line = line_of (regions t d) (hero_has_a_response t d once stands) in
+        let line = line_there in
         let whole = up_to-frame before text after in
         let fits = subst (Each Fits) (sym all) (each-join Fits before (text ∷ after) fit rest) in (
           record { status = Done; bytes = body t d ++ line.0 },
@@ -172,7 +179,7 @@ module _ (t : HeroTables) (d : HeroDocument) (once : EachOnce d) (stands : RefSt
 
     -- how it ends
     abbrev Ending : Status → Option (List ℕ) → Option (List ℕ) → ℕ → Client → Type 0
-    Ending s a b cut new = Meets (Answered (Built t d)) s a b × ClientEnds Asked cut c new s
+    Ending s a b cut new = Meets (Answered (Built t d)) s a b × ClientEnds Asked cut c new a b s
 
     failing : (cut : ℕ) (a b : Option (List ℕ)) (new : Client) (s : Status) → HandedAll payloads cut a b c new (Err s) → Ending s a b cut new
     failing cut a b new StreamRefused h = (
@@ -192,42 +199,53 @@ module _ (t : HeroTables) (d : HeroDocument) (once : EachOnce d) (stands : RefSt
       all_fit : Each Fits (texts t d)
       all_fit = frame_fits (texts t d) (payload_lines payloads) heard_all.is_open
 
-      merged : HasMerged (regions t d) new.merger.state
-      merged = merges_all (regions t d) lone first later refl readable h.0 all_fit new.merger.state (heard_all.contents, heard_all.took.complete, heard_all.all, heard_all.took.follows)
+      -- the body alone is a front of what a right outcome writes
+      body_put : (e : Option (List ℕ)) → Keeps b e → Front (Answered (Built t d)) a e
+      body_put e kept = (
+        record { status = Done; bytes = body t d ++ line_there.0 },
+        delivered_way all_fit line_there.0 line_there.1,
+        Prefix-within a e (body t d) line_there.0 (Prefix-all a e (body t d) (Appends-kept a b e (body t d) h.1 kept)),
+      )
 
-      line : IsMergedLine (regions t d) (merged_line new.merger.state)
-      line = line_merged (regions t d) new.merger.state merged
+      module _ (typed : IsTypedState new.merger.state) where
+        merged : HasMerged (regions t d) new.merger.state
+        merged = merges_all (regions t d) lone first later refl readable h.0 all_fit new.merger.state typed (heard_all.contents, heard_all.took.complete, heard_all.all, heard_all.took.follows)
+
+        line : IsMergedLine (regions t d) (merged_line new.merger.state)
+        line = line_merged (regions t d) new.merger.state merged
+
+        right : Answered (Built t d) (record { status = Done; bytes = body t d ++ merged_line new.merger.state })
+        right = delivered_way all_fit (merged_line new.merger.state) line
 
       abbrev outcome : Outcome
       outcome = record { status = Done; bytes = body t d ++ merged_line new.merger.state }
 
-      right : Answered (Built t d) outcome
-      right = delivered_way all_fit (merged_line new.merger.state) line
-
-      took_body : TookBody t d cut new
-      took_body = record { stands = heard_all; cuts = h.3 0 fresh.uncut ∙ ap counted (zero-add _) }
+      took_body : (e : Option (List ℕ)) → Appends b e (merged_line new.merger.state) → TookBody t d cut new a e
+      took_body e put = record {
+        stands = heard_all;
+        cuts = h.3 0 fresh.uncut ∙ ap counted (zero-add _);
+        line = Appends-trans a b e (body t d) (merged_line new.merger.state) h.1 put;
+      }
 
       took_all : TookFront t d new
       took_all = record { front = body t d; back = []; cut = sym (append-nil (body t d)); stands = heard_all }
 
-      ending_by : (e : Option (List ℕ)) (s : Status) → (s ≡ NoMemory) ⊎ (s ≡ WriteFault) → AppendsPrefix b e (merged_line new.merger.state) → Ending s a e cut new
-      ending_by e s (inl is) some = subst (λ (x : Status). Ending x a e cut new) (sym is) (inr (outcome, right, Prefix-after a b e (body t d) (merged_line new.merger.state) h.1 some), tt)
-      ending_by e s (inr is) some = subst (λ (x : Status). Ending x a e cut new) (sym is) ((outcome, right, Prefix-after a b e (body t d) (merged_line new.merger.state) h.1 some), inr (t, d, (refl, refl), took_all))
-
-      ending : (e : Option (List ℕ)) (r : Result (Unit {0}) Status) → Puts b e (merged_line new.merger.state) r → IfErr r (λ s. (s ≡ NoMemory) ⊎ (s ≡ WriteFault)) → Ending (ended r) a e cut new
-      ending e (Ok x) put statuses = ((outcome, right, refl, Appends-trans a b e (body t d) (merged_line new.merger.state) h.1 put), (t, d, (refl, refl), took_body))
-      ending e (Err s) put statuses = ending_by e s statuses put
+      ending : (e : Option (List ℕ)) (r : Result (Unit {0}) Status) → PutsLine new.merger.state b e r → Ending (ended r) a e cut new
+      ending e (Ok x) (typed, put) = ((outcome, right typed, refl, Appends-trans a b e (body t d) (merged_line new.merger.state) h.1 put), (t, d, (refl, refl), took_body e put))
+      ending e (Err WriteFault) (typed, some) = ((outcome, right typed, Prefix-after a b e (body t d) (merged_line new.merger.state) h.1 some), inr (t, d, (refl, refl), took_all))
+      ending e (Err NoMemory) kept = (inr (body_put e kept), tt)
+      ending e (Err _) put = absurd put
 
 -- ---- the calls
 
-pub executed-failing : (t : HeroTables) (d : HeroDocument) (once : EachOnce d) (stands : RefStands t) (placed : IsPlaced d) (c : Client) (fresh : IsNew c) (cut : ℕ) (a b : Option (List ℕ)) (new : Client)
+pub executed-failing : (t : HeroTables) (d : HeroDocument) (once : EachOnce d) (stands : RefStands t) (placed : IsPlaced d) (tables_fit : TablesFit t) (c : Client) (fresh : IsNew c) (cut : ℕ) (a b : Option (List ℕ)) (new : Client)
     (r : Result (Unit {0}) Status) (s : Status) → IsErrAnd r (λ e. e ≡ s) → HandedAll (first_payloads (regions t d)) cut a b c new (Err s)
-    → Meets (Answered (Built t d)) (ended r) a b × ClientEnds (λ u e. (u ≡ t) × (e ≡ d)) cut c new (ended r)
-executed-failing t d once stands placed c fresh cut a b new (Ok x) s err h = absurd err
-executed-failing t d once stands placed c fresh cut a b new (Err e) s err h =
-    subst (λ (x : Status). Meets (Answered (Built t d)) x a b × ClientEnds (λ u e. (u ≡ t) × (e ≡ d)) cut c new x) (sym err) (failing t d once stands placed c fresh cut a b new s h)
+    → Meets (Answered (Built t d)) (ended r) a b × ClientEnds (λ u e. (u ≡ t) × (e ≡ d)) cut c new a b (ended r)
+executed-failing t d once stands placed tables_fit c fresh cut a b new (Ok x) s err h = absurd err
+executed-failing t d once stands placed tables_fit c fresh cut a b new (Err e) s err h =
+    subst (λ (x : Status). Meets (Answered (Built t d)) x a b × ClientEnds (λ u e. (u ≡ t) × (e ≡ d)) cut c new a b x) (sym err) (failing t d once stands placed tables_fit c fresh cut a b new s h)
 
-pub executed-ending : (t : HeroTables) (d : HeroDocument) (once : EachOnce d) (stands : RefStands t) (placed : IsPlaced d) (c : Client) (fresh : IsNew c) (cut : ℕ) (a b e : Option (List ℕ)) (new : Client)
-    (r : Result (Unit {0}) Status) → HandedAll (first_payloads (regions t d)) cut a b c new (Ok tt) → Puts b e (merged_line new.merger.state) r → IfErr r (λ s. (s ≡ NoMemory) ⊎ (s ≡ WriteFault))
-    → Meets (Answered (Built t d)) (ended r) a e × ClientEnds (λ u e. (u ≡ t) × (e ≡ d)) cut c new (ended r)
-executed-ending t d once stands placed c fresh cut a b e new r h put statuses = ending t d once stands placed c fresh cut a b new h e r put statuses
+pub executed-ending : (t : HeroTables) (d : HeroDocument) (once : EachOnce d) (stands : RefStands t) (placed : IsPlaced d) (tables_fit : TablesFit t) (c : Client) (fresh : IsNew c) (cut : ℕ) (a b e : Option (List ℕ)) (new : Client)
+    (r : Result (Unit {0}) Status) → HandedAll (first_payloads (regions t d)) cut a b c new (Ok tt) → PutsLine new.merger.state b e r
+    → Meets (Answered (Built t d)) (ended r) a e × ClientEnds (λ u e. (u ≡ t) × (e ≡ d)) cut c new a e (ended r)
+executed-ending t d once stands placed tables_fit c fresh cut a b e new r handed put = ending t d once stands placed tables_fit c fresh cut a b new handed e r put

@@ -14,7 +14,7 @@ use Rattle.gql_tool.specs.Outcome.{Outcome, Ways, AfterFile, names, file_limit}
 use Rattle.gql_tool.specs.Local.{Judged, Answered, RequestWays}
 use Rattle.gql_tool.specs.Meets.{Meets, MeetsTold, Finds, FileStops, StopsAt, ended}
 
-Appends-kept_first : (a b c : Option (List ℕ)) (bytes : List ℕ) → Keeps a b → Appends b c bytes → Appends a c bytes
+pub Appends-kept_first : (a b c : Option (List ℕ)) (bytes : List ℕ) → Keeps a b → Appends b c bytes → Appends a c bytes
 Appends-kept_first None b c bytes kept more = tt
 Appends-kept_first (Some x) None c bytes kept more = absurd kept
 Appends-kept_first (Some x) (Some y) None bytes kept more = absurd more

@@ -27,7 +27,7 @@ use Rattle.gql_tree.proofs.Json.{data_Null, data_Int, data_Text, data_Object}
 use Rattle.gql_tree.proofs.Typed.{typed_Null, typed_Int, typed_Text, typed_Object, and_true}
 use Rattle.gql_tree.specs.Sound.{IsSound, SamePayload}
 use Rattle.gql_payload.specs.Reading.{Decodes}
-use Rattle.gql_payload.specs.Typed.{IsTypedValue, IsTypedKey, IsTypedFault, IsTypedPending, IsTypedEntry, IsTypedCompleted, IsTypedPayload}
+use Rattle.gql_tree.specs.Typed.{IsTypedValue, IsTypedKey, IsTypedFault, IsTypedPending, IsTypedEntry, IsTypedCompleted, IsTypedPayload}
 use Rattle.gql_payload.proofs.Back.{text_back}
 use Rattle.gql_payload.proofs.Contents.{Part as Member, fault_parts, pending_parts, entry_parts, completed_parts, payload_parts}
 use Rattle.gql_payload.proofs.Utf8.{IsUtf8Data, AreUtf8Items, AreUtf8Members, IsUtf8-AreAscii, decimal_ascii, IsUtf8-compact_text}
@@ -50,14 +50,14 @@ use Rattle.gql_tool.specs.declared.request.Request.TheVariants.{Built}
 use Rattle.gql_tool.specs.Local.{Judged, regions}
 use Rattle.gql_tool.specs.Operation.{name_of, nodes_of}
 use Rattle.gql_tool.specs.Service.{service, query}
-use Rattle.gql_tool.specs.Hero.{hero_path, is_required, cell_under, cell_part, leaf_path, leaf_part, leaf_members, leaf_faults, some_bubble, hero_object, single, announcing, completing_by, standing_payloads, person_payloads_by, EachOnce, RefStands}
+use Rattle.gql_tool.specs.Hero.{hero_path, is_required, cell_under, cell_part, leaf_path, leaf_part, leaf_members, leaf_faults, some_bubble, hero_object, single, announcing, completing_by, standing_payloads, person_payloads_by, EachOnce, RefStands, CellFits, PersonFits, HeroFits, TablesFit}
 use Rattle.gql_tool.proofs.HeroForests.{person_at}
 use Rattle.gql_tool.proofs.HeroOnce.{apart-members}
 use Rattle.gql_tool.proofs.HeroPayloads.{payloads-person, payloads-null, payloads-error}
 use Rattle.gql_tool.proofs.HeroSound.{hero_payloads_make_sense, hero_payloads_are_shallow}
 use Rattle.gql_tool.proofs.Reading.{judged-read, judged-once, judged-stands}
 use Rattle.gql_tool.proofs.Spots.{FitsSpot, FitsDocument, read-fits, judged-placed}
-use Rattle.gql_tool.proofs.TableTexts.{CellFits, PersonFits, HeroFits, TablesFit, tables_in-fit}
+use Rattle.gql_tool.proofs.TableTexts.{tables_in-fit}
 
 -- ---- lists
 
@@ -97,13 +97,13 @@ unless_empty_utf8 f (x ∷ xs) h = items_utf8 f (x ∷ xs) h
 
 -- ---- values
 
-abbrev ValueFits : Value → Type 0
+abbrev pub ValueFits : Value → Type 0
 ValueFits x = IsTypedValue x × IsUtf8Data (data_of x)
 
 abbrev MemberFits : Named Value → Type 0
 MemberFits m = IsUtf8 m.name × ValueFits m.value
 
-null_fits : ValueFits v.Null
+pub null_fits : ValueFits v.Null
 null_fits = (typed_Null, subst IsUtf8Data (sym data_Null) tt)
 
 put_all_utf8 : (ms : List (Named Value)) (found : Members) → Each MemberFits ms → AreUtf8Members found → AreUtf8Members (put_all data_of found ms)
@@ -120,7 +120,7 @@ object_fits ms names h = (
   subst IsUtf8Data (sym (data_Object ms)) (put_all_utf8 ms json.no_members h tt),
 )
 
-hero_fits : (x : Value) → ValueFits x → ValueFits (hero_object x)
+pub hero_fits : (x : Value) → ValueFits x → ValueFits (hero_object x)
 hero_fits x h = object_fits (record { name = codes "hero"; value = x } ∷ []) refl ((IsUtf8-are_ascii (codes "hero") refl, h), tt)
 
 cell_fits : (required : Bool) (spot : Spot) (path : List Key) (c : LeafCell) → CellFits c → ValueFits (value_in (cell_part required spot path c))
@@ -151,7 +151,7 @@ members_fit p (l ∷ ls) h = ((name_utf8 l.name, cell_fits (is_required l.name) 
 abbrev Once : List Leaf → Type 0
 Once ls = (name : LeafName) → times name ls ≤ 1
 
-fields_fit : (p : Person) (ls : List Leaf) → PersonFits p → Once ls → ValueFits (v.Object (leaf_members p ls))
+pub fields_fit : (p : Person) (ls : List Leaf) → PersonFits p → Once ls → ValueFits (v.Object (leaf_members p ls))
 fields_fit p ls h once = object_fits (leaf_members p ls) (apart-members p ls once) (members_fit p ls h)
 
 -- ---- errors
@@ -328,7 +328,7 @@ person_fit false p leaves (Some def) h once later a b l = waiting_fit p leaves d
 
 -- ---- the payloads of a document
 
-fits_at : (ps : List Person) (n : ℕ) (p : Person) → slice_get ps n ≡ Some p → Each PersonFits ps → PersonFits p
+pub fits_at : (ps : List Person) (n : ℕ) (p : Person) → slice_get ps n ≡ Some p → Each PersonFits ps → PersonFits p
 fits_at [] n p is h = absurd (cc)
 fits_at (x ∷ xs) zero p is h = let same : x ≡ p = cc in subst PersonFits same h.0
 fits_at (x ∷ xs) (suc n) p is h = fits_at xs n p is h.1

@@ -30,6 +30,8 @@ mod Ids
 mod Judged
 mod Kept
 mod Numbers
+mod OneHearing
+mod OneOutcome
 mod Only
 mod Pieces
 mod Places

@@ -25,8 +25,8 @@ use Rattle.gql_tool.specs.Outcome.{Outcome, Ways}
 use Rattle.gql_tool.specs.Meets.{Meets, MeetsTold}
 use Rattle.gql_tool.specs.Client.{at_byte, Accepts, AcceptsEnd}
 use Rattle.gql_tool.specs.Heard.{Heard, Stands, IsRefused, IsRefusedAtEnd, reason_of}
-use Rattle.gql_tool.specs.Hearing.{EndsAt, heard_of, hearing_of}
-use Rattle.gql_tool.specs.Replay.{budget, lines_of, merged_line, refused_lines, body_too_long, HeardWays, ReplayWays}
+use Rattle.gql_tool.specs.Hearing.{EndsAt, StillTells, heard_of, hearing_of}
+use Rattle.gql_tool.specs.Replay.{budget, merged_line, refused_lines, Tells, body_too_long, HeardWays, ReplayWays}
 use Rattle.gql_tool.proofs.Digits.{decimal_zero}
 use Rattle.gql_tool.proofs.Files.{Meets-more}
 
@@ -60,6 +60,14 @@ longer fits taken room after less within none =
 pub err_by : (r : Result (Unit {0}) ClientRefusal) (e now : ClientRefusal) → r ≡ Err e → e ≡ now → r ≡ Err now
 err_by r e now is same = is ∙ ap (λ (x : ClientRefusal). (let y : Result (Unit {0}) ClientRefusal = Err x in y)) same
 
+-- ---- what is left of an input that tells
+
+pub StillTells-trans : (a b c : Option (List ℕ)) → StillTells a b → StillTells b c → StillTells a c
+StillTells-trans None b c h k = tt
+StillTells-trans (Some x) None c h k = absurd h
+StillTells-trans (Some x) (Some y) None h k = absurd k
+StillTells-trans (Some x) (Some y) (Some z) h k = tt
+
 -- ---- right outcomes
 
 -- what a client that goes on accepts
@@ -67,27 +75,27 @@ accepts : (c : Client) (h : Heard) → Stands c h → Accepts h.boundary h.bytes
 accepts c h stands = ((stands.contents, stands.took.complete, stands.all, stands.took.follows), stands.is_open)
 
 -- what is written of a client by its stop
-written : (status : Status) (stop now : Option Stop) (t : State) (o : Outcome) → stop ≡ now → o ≡ record { status = status; bytes = lines_of (reason_of stop) t } → o ≡ record { status = status; bytes = lines_of (reason_of now) t }
-written status stop now t o same is = is ∙ ap (λ (s : Option Stop). (let p : Outcome = record { status = status; bytes = lines_of (reason_of s) t } in p)) same
+written : (status : Status) (stop now : Option Stop) (t : State) (o : Outcome) → stop ≡ now → Tells status (reason_of stop) t o → Tells status (reason_of now) t o
+written status stop now t o same tells = subst (λ (s : Option Stop). Tells status (reason_of s) t o) same tells
 
 pub Meets-whole : (c : Client) (boundary bytes : List ℕ) (status : Status) (a b : Option (List ℕ)) → length bytes ≤ budget → Stands c (heard_of boundary bytes) → AcceptsEnd boundary bytes c.merger.state
-    → Meets (λ o. o ≡ record { status = Done; bytes = lines_of (reason_of c.stop) c.merger.state }) status a b → Meets (HeardWays boundary bytes) status a b
+    → Meets (Tells Done (reason_of c.stop) c.merger.state) status a b → Meets (HeardWays boundary bytes) status a b
 Meets-whole c boundary bytes status a b within stands ends meets =
-    Meets-more (λ o. o ≡ record { status = Done; bytes = lines_of (reason_of c.stop) c.merger.state }) (HeardWays boundary bytes) status a b
+    Meets-more (Tells Done (reason_of c.stop) c.merger.state) (HeardWays boundary bytes) status a b
     (λ o is. inl (c.merger.state, within, accepts c (heard_of boundary bytes) stands, ends, written Done c.stop None c.merger.state o stands.going is)) meets
 
 pub Meets-end : (c new : Client) (boundary bytes : List ℕ) (status : Status) (a b : Option (List ℕ)) → length bytes ≤ budget → Stands c (heard_of boundary bytes) → IsRefusedAtEnd new boundary bytes → new.merger ≡ c.merger
-    → Meets (λ o. o ≡ record { status = StreamRefused; bytes = lines_of (reason_of new.stop) new.merger.state }) status a b → Meets (HeardWays boundary bytes) status a b
+    → Meets (Tells StreamRefused (reason_of new.stop) new.merger.state) status a b → Meets (HeardWays boundary bytes) status a b
 Meets-end c new boundary bytes status a b within stands refused merger meets =
     let accepted = subst (λ (m : Merger). Accepts boundary bytes m.state) (sym merger) (accepts c (heard_of boundary bytes) stands) in
-    Meets-more (λ o. o ≡ record { status = StreamRefused; bytes = lines_of (reason_of new.stop) new.merger.state }) (HeardWays boundary bytes) status a b
+    Meets-more (Tells StreamRefused (reason_of new.stop) new.merger.state) (HeardWays boundary bytes) status a b
     (λ o is. inr (inl (new.merger.state, refused.0, within, accepted, refused.2, written StreamRefused new.stop (Some (Refused refused.0)) new.merger.state o refused.1 is))) meets
 
 pub Meets-front : (new : Client) (boundary bytes front rest : List ℕ) (status : Status) (a b : Option (List ℕ)) → bytes ≡ front ++ rest → EndsAt boundary front rest new hearing.Refused
-    → Meets (λ o. o ≡ record { status = StreamRefused; bytes = lines_of (reason_of new.stop) new.merger.state }) status a b → Meets (HeardWays boundary bytes) status a b
+    → Meets (Tells StreamRefused (reason_of new.stop) new.merger.state) status a b → Meets (HeardWays boundary bytes) status a b
 Meets-front new boundary bytes front rest status a b cut (piece, back, is, within, refused) meets =
     let whole : bytes ≡ (front ++ piece) ++ back = cut ∙ (ap (λ (xs : List ℕ). front ++ xs) is ∙ sym (append_assoc front piece back)) in
-    Meets-more (λ o. o ≡ record { status = StreamRefused; bytes = lines_of (reason_of new.stop) new.merger.state }) (HeardWays boundary bytes) status a b
+    Meets-more (Tells StreamRefused (reason_of new.stop) new.merger.state) (HeardWays boundary bytes) status a b
     (λ o same. inr (inr (inl (new.merger.state, refused.0, front ++ piece, back, whole, within, refused.2, written StreamRefused new.stop (Some (Refused refused.0)) new.merger.state o refused.1 same)))) meets
 
 pub Meets-budget : (new : Client) (boundary bytes front rest : List ℕ) (status : Status) (a b : Option (List ℕ)) → bytes ≡ front ++ rest → EndsAt boundary front rest new hearing.TooLong
@@ -122,7 +130,7 @@ pub Meets-no_boundary : (boundary bytes : List ℕ) (status : Status) (a b : Opt
     → Meets (ReplayWays boundary bytes) status a b
 Meets-no_boundary boundary bytes status a b none meets =
     Meets-more (λ o. o ≡ record { status = StreamRefused; bytes = codes "refused byte 0: BadBoundary\nmerged none\n" }) (ReplayWays boundary bytes) status a b
-    (λ o is. inl (none, is ∙ ap (λ (xs : List ℕ). (let p : Outcome = record { status = StreamRefused; bytes = xs } in p)) no_boundary_lines)) meets
+    (λ o is. inl (none, (tt, is ∙ ap (λ (xs : List ℕ). (let p : Outcome = record { status = StreamRefused; bytes = xs } in p)) no_boundary_lines))) meets
 
 -- an input that was heard to its end
 pub Meets-all : (boundary bytes front rest : List ℕ) (status : Status) (a b : Option (List ℕ)) → bytes ≡ front ++ rest → rest ≡ [] → length front ≤ budget

@@ -11,8 +11,9 @@ use Rattle.gql_tool.specs.declared.status.Status.{Status}
 use Rattle.gql_tool.specs.Local.{built, Parses, Judged, nowhere, refused_at, Answered}
 use Rattle.gql_tool.specs.Meets.{Meets}
 use Rattle.gql_tool.specs.Hero.{CanRun, answer_of}
-use Rattle.gql_tool.proofs.Reading.{judged-once, judged-stands}
+use Rattle.gql_tool.proofs.Reading.{judged-read, judged-once, judged-stands}
 use Rattle.gql_tool.proofs.Spots.{judged-placed}
+use Rattle.gql_tool.proofs.TableTexts.{tables_in-fit}
 
 -- a request with a document
 judged-document : (vars schema tables document : List ℕ) (it : Document) (request : Request) → IsUtf8 document → Parses document (Ok it) → request ≡ answer_of (built vars schema tables it) → Judged vars schema tables document request
@@ -28,7 +29,8 @@ judged-runs vars schema tables document NoText h = tt
 judged-runs vars schema tables document (NoDocument refusal) h = tt
 judged-runs vars schema tables document NotBuilt h = tt
 judged-runs vars schema tables document (Built t d) h =
-    (judged-stands vars schema tables document t d h, (judged-once vars schema tables document t d h, judged-placed vars schema tables document t d h))
+    let read = judged-read vars schema tables document t d h in
+    (judged-stands vars schema tables document t d h, tables_in-fit tables t read.tables, judged-once vars schema tables document t d h, judged-placed vars schema tables document t d h)
 
 -- as the answer says it
 pub answer-runs : {E : Type 0} (vars schema tables document : List ℕ) (r : Result Request E) → IfOk r (λ request. Judged vars schema tables document request) → IfOk r CanRun

@@ -9,6 +9,7 @@ use Rattle.gql_multipart.specs.Body.{IsBoundary, Body}
 use Rattle.gql_multipart.proofs.Frames.{dash_boundary, frame_is_body}
 use Rattle.gql_merge.specs.declared.state.State.{State}
 use Rattle.gql_merge.specs.Merging.{HasMerged}
+use Rattle.gql_merge.specs.Same.{IsTypedState}
 use Rattle.gql_tool.specs.declared.status.Status.{Status}
 use Rattle.gql_tool.specs.declared.status.Status.TheVariants.{Done, ReadFault, WriteFault, NoMemory}
 use Rattle.gql_tool.specs.declared.shape.HeroDocument.{HeroDocument}
@@ -62,9 +63,9 @@ module _ (t : HeroTables) (d : HeroDocument) (boundary input : List ℕ) (h : Is
   readable : Each IsReadable payloads
   readable = all_readable payloads (hero_payloads_make_sense t d once stands placed) (hero_payloads_are_shallow t d once stands)
 
-  merged : (s : State) → Merges boundary input s → HasMerged (regions t d) s
-  merged s merges =
-      merges_all (regions t d) (hero_is_lone t d once stands) first later refl readable (all_written payloads written) h.fit s
+  merged : (s : State) → IsTypedState s → Merges boundary input s → HasMerged (regions t d) s
+  merged s typed merges =
+      merges_all (regions t d) (hero_is_lone t d once stands) first later refl readable (all_written payloads written) h.fit s typed
       (subst (λ (b : List ℕ). Merges b (body t d) s) h.is_dash (subst (λ (bytes : List ℕ). Merges boundary bytes s) h.is_body merges))
 
   not_refused : (front back : List ℕ) → input ≡ front ++ back → (s : State) (why : List ℕ) → Refuses boundary front s why → ⊥
@@ -79,11 +80,11 @@ module _ (t : HeroTables) (d : HeroDocument) (boundary input : List ℕ) (h : Is
 
   -- nothing else is right but the line of the defined response
   merged_way : (o : Outcome) → HeardWays boundary input o → MergedWay t d o
-  merged_way o (inl (s, within, accepts, ends, is)) = (_, line_merged (regions t d) s (merged s accepts.0), is)
-  merged_way o (inr (inl (s, why, within, accepts, inl (none, because), is))) = absurd (none is_whole.0 is_whole.1)
-  merged_way o (inr (inl (s, why, within, accepts, inr (contents, whole, going, because), is))) =
-      absurd (let bad : true ≡ false = sym (merged s accepts.0).ended ∙ going in cc)
-  merged_way o (inr (inr (inl (s, why, front, back, cut, within, refuses, is)))) = absurd (not_refused front back cut s why refuses)
+  merged_way o (inl (s, within, accepts, ends, (typed, is))) = (_, line_merged (regions t d) s (merged s typed accepts.0), is)
+  merged_way o (inr (inl (s, why, within, accepts, inl (none, because), tells))) = absurd (none is_whole.0 is_whole.1)
+  merged_way o (inr (inl (s, why, within, accepts, inr (contents, whole, going, because), (typed, is)))) =
+      absurd (let bad : true ≡ false = sym (merged s typed accepts.0).ended ∙ going in cc)
+  merged_way o (inr (inr (inl (s, why, front, back, cut, within, refuses, tells)))) = absurd (not_refused front back cut s why refuses)
   merged_way o (inr (inr (inr (s, front, back, cut, full, more, accepts, is)))) = absurd (by_back back cut more)
     where
       by_back : (bs : List ℕ) → input ≡ front ++ bs → bs ≢ [] → ⊥

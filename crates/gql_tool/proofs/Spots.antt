@@ -6,8 +6,8 @@ use Rattle.std.proofs.lemmas.List.Sums.{count_by-le-length}
 use Rattle.gql_tree.specs.declared.Spot.{Spot}
 use Rattle.gql_lex.specs.Places.{ends_line, lines_ended, last_line, begins_character, spot_at}
 use Rattle.gql_lex.specs.Tokens.{Lexeme}
-use Rattle.gql_lex.specs.TokenPlaces.{IsPlaceIn}
-use Rattle.gql_lex.proofs.TokenPlaces.{tokens_stand}
+use Rattle.gql_lex.specs.TokenPlaces.{IsSliceOf}
+use Rattle.gql_lex.proofs.TokenPlaces.{tokens-slices}
 use Rattle.gql_doc.specs.StringValue.{string_value}
 use Rattle.gql_doc.specs.Marks.{is_string}
 use Rattle.gql_doc.proofs.Meant.{values-utf8}
@@ -61,9 +61,9 @@ spot_at-fits passed here within =
 -- ---- documents
 
 -- what is so of each place in a text is so of its tokens'
-at_places : (P : Spot → Type 0) (text : List ℕ) → ((passed here : List ℕ) → passed ++ here ≡ text → P (spot_at passed here)) → (tokens : List Lexeme) → Each (λ t. IsPlaceIn text t.spot) tokens → Each (λ t. P t.spot) tokens
+at_places : (P : Spot → Type 0) (text : List ℕ) → ((passed here : List ℕ) → passed ++ here ≡ text → P (spot_at passed here)) → (tokens : List Lexeme) → Each (IsSliceOf text) tokens → Each (λ t. P t.spot) tokens
 at_places P text places [] h = tt
-at_places P text places (t ∷ ts) h = (subst P (sym h.0.place) (places h.0.passed h.0.here h.0.whole), at_places P text places ts h.1)
+at_places P text places (t ∷ ts) h = (subst P (sym h.0.spot) (places h.0.before (t.text ++ h.0.behind) (sym h.0.whole)), at_places P text places ts h.1)
 
 -- each token has a place and a value
 both : (P : Spot → Type 0) (L : List ℕ → Type 0) (tokens : List Lexeme) → Each (λ t. P t.spot) tokens → Each (λ t. is_string t ≡ true → L (string_value t.kind t.text)) tokens → Each (TokenIs P L) tokens
@@ -87,7 +87,7 @@ has_placed d h = record { operation = h.operation; hero = h.hero; leaves = h.lea
 -- a document that was read counts lines and columns from 1
 pub read-placed : (text : List ℕ) (it : Document) (d : HeroDocument) → Is text it → hero_of it ≡ Some d → IsPlaced d
 read-placed text it d read is =
-    let places = at_places IsSpot text (λ passed here whole. spot_at-counts passed here) read.tokens (tokens_stand text read.tokens _ read.all) in
+    let places = at_places IsSpot text (λ passed here whole. spot_at-counts passed here) read.tokens (tokens-slices text read.tokens _ read.all) in
     has_placed d (hero_of-places IsSpot AnyLabel it d (document_gives IsSpot AnyLabel 3 read.tokens it (both IsSpot AnyLabel read.tokens places (any_values read.tokens)) read.document) is)
 
 pub judged-placed : (vars schema tables document : List ℕ) (t : HeroTables) (d : HeroDocument) → Judged vars schema tables document (Built t d) → IsPlaced d
@@ -105,5 +105,5 @@ FitsDocument = HasPlaces FitsSpot IsUtf8
 pub read-fits : (text : List ℕ) (it : Document) (d : HeroDocument) → IsUtf8 text → length text ≤ most_bytes → Is text it → hero_of it ≡ Some d → FitsDocument d
 read-fits text it d utf8 within read is =
     let front_within : (passed here : List ℕ) → passed ++ here ≡ text → length passed ≤ most_bytes = λ passed here whole. omega (arith, within, ap length whole, length-append passed here) in
-    let places = at_places FitsSpot text (λ passed here whole. spot_at-fits passed here (front_within passed here whole)) read.tokens (tokens_stand text read.tokens _ read.all) in
+    let places = at_places FitsSpot text (λ passed here whole. spot_at-fits passed here (front_within passed here whole)) read.tokens (tokens-slices text read.tokens _ read.all) in
     hero_of-places FitsSpot IsUtf8 it d (document_gives FitsSpot IsUtf8 3 read.tokens it (both FitsSpot IsUtf8 read.tokens places (all_strings read.tokens (values-utf8 text read.tokens _ utf8 read.all))) read.document) is

@@ -22,30 +22,8 @@ use Rattle.gql_tool.specs.declared.tables.HeroCell.{HeroCell}
 use Rattle.gql_tool.specs.declared.tables.HeroCell.TheVariants as hero
 use Rattle.gql_tool.specs.declared.tables.Person.{Person}
 use Rattle.gql_tool.specs.declared.tables.HeroTables.{HeroTables}
+use Rattle.gql_tool.specs.Hero.{CellFits, PersonFits, HeroFits, TablesFit}
 use Rattle.gql_tool.specs.HeroTables.{json_in, text_at, list_at, is_single, error_in, is_null, null_or_error, plain_text, is_int32, int32, plain_int, cell_by, text_cell, int_cell, person_by, person_in, persons_in, row_ids, ref_in, hero_by, hero_cell, only_row, fits_together, hero_among, tables_by, tables_held, tables_in}
-
--- ---- what can be written
-
-abbrev pub CellFits : LeafCell → Type 0
-CellFits leaf.Null = Unit {0}
-CellFits (leaf.Int n) = IsTrue (fits n)
-CellFits (leaf.Text s) = IsUtf8 s
-CellFits (leaf.Error m) = IsUtf8 m
-
-pub record PersonFits (p : Person) : Type 0 where
-  pub id : CellFits p.id
-  pub name : CellFits p.name
-  pub age : CellFits p.age
-  pub boom : CellFits p.boom
-
-abbrev pub HeroFits : HeroCell → Type 0
-HeroFits hero.Null = Unit {0}
-HeroFits (hero.Error m) = IsUtf8 m
-HeroFits (hero.Ref n) = Unit {0}
-
-pub record TablesFit (t : HeroTables) : Type 0 where
-  pub hero : HeroFits t.hero
-  pub persons : Each PersonFits t.persons
 
 -- ---- answers that may be missing
 

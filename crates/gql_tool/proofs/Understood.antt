@@ -26,7 +26,7 @@ use Rattle.gql_tool.specs.Client.{Undecoded, Follows}
 some_one : {A : Type 0} (x y : A) (o : Option A) → o ≡ Some x → o ≡ Some y → x ≡ y
 some_one x y o e f = cc
 
-json-one : (bytes : List ℕ) (d e : Data) → IsJson bytes d → IsJson bytes e → d ≡ e
+pub json-one : (bytes : List ℕ) (d e : Data) → IsJson bytes d → IsJson bytes e → d ≡ e
 json-one bytes d e f g = some_one d e (read bytes) f.1 g.1
 
 pub decodes-one : (bytes : List ℕ) (p q : Payload) → Decodes bytes p → Decodes bytes q → p ≡ q
@@ -62,7 +62,7 @@ same_entries : (es : List Entry) → SameEntries es es
 same_entries [] = tt
 same_entries (e ∷ es) = (record { id = refl; sub_path = refl; content = same_content e.content; errors = refl }, same_entries es)
 
-same_payload : (p : Payload) → SamePayload p p
+pub same_payload : (p : Payload) → SamePayload p p
 same_payload p = record { initial = same_maybe p.initial; errors = refl; pending = refl; incremental = same_entries p.incremental; completed = refl; has_next = refl }
 
 same_payloads : (ps : List Payload) → SamePayloads ps ps

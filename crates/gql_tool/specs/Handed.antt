@@ -1,7 +1,7 @@
 -- Payloads that were put and fed to the client, for private clauses.
 use Rattle.std.specs.Prelude.{◌≡◌, ℕ, ◌+◌, ◌≤◌, List, [], ◌∷◌, ◌++◌, map, Option, Result, Ok, Err}
 use Rattle.std.specs.List.{AllByRecursion as Each}
-use Rattle.std.specs.Io.KnownBytes.{Appends}
+use Rattle.std.specs.Io.KnownBytes.{Appends, Keeps}
 use Rattle.serde_json.specs.Data.{depth}
 use Rattle.gql_tree.specs.declared.Payload.{Payload}
 use Rattle.gql_tree.specs.Sound.{IsSound, SamePayload}
@@ -10,6 +10,8 @@ use Rattle.gql_tree.specs.Frame.{frame}
 use Rattle.gql_payload.specs.Reading.{Decodes}
 use Rattle.gql_multipart.specs.Body.{IsOpen}
 use Rattle.gql_multipart.specs.Framed.{so_far}
+use Rattle.gql_merge.specs.declared.state.State.{State}
+use Rattle.gql_merge.specs.Same.{IsTypedState}
 use Rattle.gql_io.specs.Told.{AppendsPrefix}
 use Rattle.gql_tool.specs.declared.status.Status.{Status}
 use Rattle.gql_tool.specs.declared.status.Status.TheVariants.{WriteFault, NoMemory, StreamRefused}
@@ -18,6 +20,7 @@ use Rattle.gql_tool.specs.Client.{counted}
 use Rattle.gql_tool.specs.Heard.{Heard, Stands, heard, IsRefused}
 use Rattle.gql_tool.specs.Local.{up_to}
 use Rattle.gql_tool.specs.LocalClient.{cuts_in, cuts_of}
+use Rattle.gql_tool.specs.Replay.{merged_line}
 
 -- a payload whose text was written: it is read as the same payload, if it makes sense
 abbrev pub IsWritten : Payload → Type 0
@@ -53,6 +56,15 @@ Handed p piece cut old new c d (Err StreamRefused) = IsWritten p × Appends old 
 Handed p piece cut old new c d (Err WriteFault) = AppendsPrefix old new piece × (d ≡ c)
 Handed p piece cut old new c d (Err NoMemory) = AppendsPrefix old new piece
 Handed p piece cut old new c d (Err _) = ⊥
+
+-- ---- the line of what it merged
+
+-- the line is put, or a front of it, where the client's state is one that can exist; nothing where there is no memory
+abbrev pub PutsLine : State → Option (List ℕ) → Option (List ℕ) → Result (Unit {0}) Status → Type 0
+PutsLine t old new (Ok done) = IsTypedState t × Appends old new (merged_line t)
+PutsLine t old new (Err WriteFault) = IsTypedState t × AppendsPrefix old new (merged_line t)
+PutsLine t old new (Err NoMemory) = Keeps old new
+PutsLine t old new (Err _) = ⊥
 
 -- ---- all payloads of a response
 

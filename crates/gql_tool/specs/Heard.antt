@@ -60,6 +60,10 @@ abbrev pub answer_of : Stop → ClientRefusal
 answer_of (Refused why) = answer.Refused
 answer_of NoMemory = answer.NoMemory
 
+-- it has stopped, and this is the answer that it gives for good
+abbrev pub StopsFor : Client → ClientRefusal → Type 0
+StopsFor c refusal = (stop : Stop) × (c.stop ≡ Some stop) × (refusal ≡ answer_of stop)
+
 -- where and why, if it refused
 abbrev pub reason_of : Option Stop → Option (List ℕ)
 reason_of None = None

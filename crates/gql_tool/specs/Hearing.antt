@@ -1,5 +1,5 @@
 -- How the hearing of an input ends, for private clauses.
-use Rattle.std.specs.Prelude.{◌≡◌, ◌≢◌, ℕ, ◌≤◌, List, [], ◌++◌, length, ⊤}
+use Rattle.std.specs.Prelude.{◌≡◌, ◌≢◌, ℕ, ◌≤◌, List, [], ◌++◌, length, Option, None, Some, ⊤}
 use Rattle.gql_tool.specs.declared.client.Client.{Client}
 use Rattle.gql_tool.specs.declared.client.ClientRefusal.{ClientRefusal}
 use Rattle.gql_tool.specs.declared.client.ClientRefusal.TheVariants as answer
@@ -23,3 +23,9 @@ EndsAt boundary front rest c NoMemory = ⊤
 abbrev pub hearing_of : ClientRefusal → Hearing
 hearing_of answer.Refused = Refused
 hearing_of answer.NoMemory = NoMemory
+
+-- an input that told goes on to tell
+abbrev pub StillTells : Option (List ℕ) → Option (List ℕ) → Type 0
+StillTells None now = ⊤
+StillTells (Some bytes) None = ⊥
+StillTells (Some bytes) (Some rest) = ⊤

@@ -1,5 +1,5 @@
 -- What a leaf of the hero completes to, for private clauses.
-use Rattle.std.specs.Prelude.{ℕ, ◌+◌, ◌<◌, ◌≤◌, length, Bool, true, false, List, [], ◌∷◌, map, flat_map, Option, Some, None, is_none, IfSome, codes, decimal, ◌≡◌}
+use Rattle.std.specs.Prelude.{ℕ, ◌+◌, ◌<◌, ◌≤◌, length, Bool, true, false, List, [], ◌∷◌, map, flat_map, Option, Some, None, is_none, IfSome, IsTrue, IsUtf8, codes, decimal, ◌≡◌}
 use Rattle.std.specs.List.{AllByRecursion, list_any}
 use Rattle.gql_tree.specs.declared.Key.{Key}
 use Rattle.gql_tree.specs.declared.Key.TheVariants.{Name as Named_key}
@@ -9,6 +9,7 @@ use Rattle.gql_tree.specs.declared.Named.{Named}
 use Rattle.gql_tree.specs.declared.Value.{Value}
 use Rattle.gql_tree.specs.declared.Value.TheVariants as v
 use Rattle.gql_tree.specs.declared.Payload.{Payload}
+use Rattle.gql_tree.specs.Typed.{fits}
 use Rattle.gql_tree.specs.declared.Content.TheVariants.{Fields}
 use Rattle.gql_model.specs.Complete.{Part, bubble, nothing, just, fault_at, null_message, value_in, is_bubble}
 use Rattle.gql_tool.specs.declared.shape.LeafName.{LeafName}
@@ -18,7 +19,9 @@ use Rattle.gql_tool.specs.declared.tables.LeafCell.{LeafCell}
 use Rattle.gql_tool.specs.declared.tables.LeafCell.TheVariants.{Null, Int, Text, Error}
 use Rattle.gql_tool.specs.declared.tables.Person.{Person}
 use Rattle.gql_tool.specs.declared.tables.HeroTables.{HeroTables}
+use Rattle.gql_tool.specs.declared.tables.HeroCell.{HeroCell}
 use Rattle.gql_tool.specs.declared.tables.HeroCell.TheVariants.{Ref}
+use Rattle.gql_tool.specs.declared.tables.HeroCell.TheVariants as hero_cells
 use Rattle.gql_tool.specs.declared.shape.HeroDocument.{HeroDocument}
 use Rattle.gql_tool.specs.declared.shape.Deferred.{Deferred}
 use Rattle.gql_tool.specs.declared.request.Request.{Request}
@@ -155,6 +158,29 @@ person_payloads p d = person_payloads_by (some_bubble p d.leaves) p d.leaves d.d
 abbrev pub RefStands : HeroTables → Type 0
 RefStands t = (n : ℕ) → t.hero ≡ Ref n → n < length t.persons
 
+-- ---- what can be written of tables: texts are UTF-8, and integers have 64 signed bits
+
+abbrev pub CellFits : LeafCell → Type 0
+CellFits Null = Unit {0}
+CellFits (Int n) = IsTrue (fits n)
+CellFits (Text s) = IsUtf8 s
+CellFits (Error m) = IsUtf8 m
+
+pub record PersonFits (p : Person) : Type 0 where
+  pub id : CellFits p.id
+  pub name : CellFits p.name
+  pub age : CellFits p.age
+  pub boom : CellFits p.boom
+
+abbrev pub HeroFits : HeroCell → Type 0
+HeroFits hero_cells.Null = Unit {0}
+HeroFits (hero_cells.Error m) = IsUtf8 m
+HeroFits (Ref n) = Unit {0}
+
+pub record TablesFit (t : HeroTables) : Type 0 where
+  pub hero : HeroFits t.hero
+  pub persons : AllByRecursion PersonFits t.persons
+
 -- ---- requests
 
 -- whether a request is executed
@@ -164,5 +190,5 @@ answer_of (Some x) = Built x.0 x.1
 
 -- what execution asks of a request that is built
 abbrev pub CanRun : Request → Type 0
-CanRun (Built t d) = RefStands t × (EachOnce d × IsPlaced d)
+CanRun (Built t d) = RefStands t × TablesFit t × EachOnce d × IsPlaced d
 CanRun _ = Unit {0}

@@ -1,5 +1,6 @@
 -- The client that the command `local` feeds: what it was, and what it is in the end.
 use Rattle.std.specs.Prelude.{◌≡◌, ◌⊎◌, ℕ, ◌+◌, ◌-◌, ◌/◌, true, List, ◌++◌, length, sum_by, Option, None, Some, codes}
+use Rattle.std.specs.Io.KnownBytes.{Appends}
 use Rattle.gql_multipart.specs.Framed.{pieces_of}
 use Rattle.gql_io.specs.Files.{Files}
 use Rattle.gql_tool.specs.declared.status.Status.{Status}
@@ -11,6 +12,7 @@ use Rattle.gql_tool.specs.Client.{counted}
 use Rattle.gql_tool.specs.Heard.{Stands, nothing_heard, IsRefused}
 use Rattle.gql_tool.specs.declared.request.Request.TheVariants.{Built}
 use Rattle.gql_tool.specs.Local.{Judged, body, texts}
+use Rattle.gql_tool.specs.Replay.{merged_line}
 use Rattle.gql_tool.specs.Words.{Form, LocalForm}
 
 -- the boundary of the bodies that are written
@@ -39,10 +41,11 @@ abbrev pub Asks : Option Files → (schema tables document vars : List ℕ) → 
 Asks None schema tables document vars t d = Unit {0}
 Asks (Some files) schema tables document vars t d = (s b c : List ℕ) × (files schema ≡ Some s) × (files tables ≡ Some b) × (files document ≡ Some c) × Judged vars s b c (Built t d)
 
--- it was fed the body in cuts, and took all of it
-pub record TookBody (t : HeroTables) (d : HeroDocument) (cut : ℕ) (c : Client) : Type 0 where
+-- it was fed the body in cuts, and took all of it; behind the body the line of what it merged was written
+pub record TookBody (t : HeroTables) (d : HeroDocument) (cut : ℕ) (c : Client) (sent_before sent : Option (List ℕ)) : Type 0 where
   pub stands : StandsFor c (body t d)
   pub cuts : c.cuts ≡ counted (cuts_of cut (texts t d))
+  pub line : Appends sent_before sent (body t d ++ merged_line c.merger.state)
 
 -- it took a front of the body
 pub record TookFront (t : HeroTables) (d : HeroDocument) (c : Client) : Type 0 where
@@ -58,16 +61,16 @@ pub record RefusedBody (t : HeroTables) (d : HeroDocument) (c : Client) : Type 0
   pub cut : body t d ≡ front ++ back
   pub refused : IsRefused c dash front
 
--- What the client is by the status: at the end it stands for the body, and in a fault of the output for a front of it.
--- Where nothing was executed it is what it was. Want of memory alone is free.
-abbrev pub ClientEnds : ((t : HeroTables) (d : HeroDocument) → Type 0) → ℕ → Client → Client → Status → Type 0
-ClientEnds Asked cut old new Done = (t : HeroTables) × (d : HeroDocument) × Asked t d × TookBody t d cut new
-ClientEnds Asked cut old new WriteFault = (new ≡ old) ⊎ ((t : HeroTables) × (d : HeroDocument) × Asked t d × TookFront t d new)
-ClientEnds Asked cut old new StreamRefused = (t : HeroTables) × (d : HeroDocument) × Asked t d × RefusedBody t d new
-ClientEnds Asked cut old new NoMemory = Unit {0}
-ClientEnds Asked cut old new _ = new ≡ old
+-- What the client is by the status, and that the line behind the body is its own: at the end it stands for the body, and in
+-- a fault of the output for a front of it. Where nothing was executed it is what it was. Want of memory alone is free.
+abbrev pub ClientEnds : ((t : HeroTables) (d : HeroDocument) → Type 0) → ℕ → Client → Client → Option (List ℕ) → Option (List ℕ) → Status → Type 0
+ClientEnds Asked cut old new sent_before sent Done = (t : HeroTables) × (d : HeroDocument) × Asked t d × TookBody t d cut new sent_before sent
+ClientEnds Asked cut old new sent_before sent WriteFault = (new ≡ old) ⊎ ((t : HeroTables) × (d : HeroDocument) × Asked t d × TookFront t d new)
+ClientEnds Asked cut old new sent_before sent StreamRefused = (t : HeroTables) × (d : HeroDocument) × Asked t d × RefusedBody t d new
+ClientEnds Asked cut old new sent_before sent NoMemory = Unit {0}
+ClientEnds Asked cut old new sent_before sent _ = new ≡ old
 
 -- every other command leaves it unchanged
-abbrev pub ClientOf : Option Files → Option Form → Client → Client → Status → Type 0
-ClientOf told (Some (LocalForm schema tables document vars workers cut)) old new status = ClientEnds (Asks told schema tables document vars) cut old new status
-ClientOf told _ old new status = new ≡ old
+abbrev pub ClientOf : Option Files → Option Form → Client → Client → Option (List ℕ) → Option (List ℕ) → Status → Type 0
+ClientOf told (Some (LocalForm schema tables document vars workers cut)) old new sent_before sent status = ClientEnds (Asks told schema tables document vars) cut old new sent_before sent status
+ClientOf told _ old new sent_before sent status = new ≡ old

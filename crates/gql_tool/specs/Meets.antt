@@ -1,5 +1,5 @@
 -- How a status and what was written meet what the files determine.
-use Rattle.std.specs.Prelude.{◌≡◌, ◌≤◌, ◌<◌, ◌⊎◌, List, ℕ, length, Option, None, Some, ⊤, Result, Ok, Err, codes}
+use Rattle.std.specs.Prelude.{◌≡◌, ◌≤◌, ◌<◌, ◌⊎◌, List, [], ℕ, length, Option, None, Some, ⊤, Result, Ok, Err, codes}
 use Rattle.std.specs.Io.KnownBytes.{Appends, Keeps}
 use Rattle.gql_io.specs.Told.{AppendsPrefix}
 use Rattle.gql_io.specs.Files.{Files}
@@ -66,6 +66,11 @@ ReadsFiles _ = ⊥
 abbrev pub ReadsInput : Option Form → Type 0
 ReadsInput (Some (ReplayForm boundary)) = ⊤
 ReadsInput _ = ⊥
+
+-- an input that told is read to its end
+abbrev pub NoneLeft : Option (List ℕ) → Option (List ℕ) → Type 0
+NoneLeft None now = ⊤
+NoneLeft (Some bytes) now = now ≡ Some []
 
 -- those that end it at a file
 abbrev pub IsStop : Status → Type 0

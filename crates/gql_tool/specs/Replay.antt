@@ -4,6 +4,7 @@ use Rattle.gql_multipart.specs.declared.reader.FrameKind.TheVariants.{BadBoundar
 use Rattle.gql_multipart.specs.Body.{IsBoundary}
 use Rattle.gql_merge.specs.declared.state.State.{State}
 use Rattle.gql_merge.specs.Apply.{fresh}
+use Rattle.gql_merge.specs.Same.{IsTypedState}
 use Rattle.gql_merge.specs.Report.{report_of}
 use Rattle.gql_tool.specs.declared.status.Status.{Status}
 use Rattle.gql_tool.specs.declared.status.Status.TheVariants.{Done, ReadFault, WriteFault, NoMemory, StreamRefused, TooLong}
@@ -22,11 +23,14 @@ merged_line t = codes "merged " ++ (report_of t ++ 10 ∷ [])
 abbrev pub refused_lines : List ℕ → State → List ℕ
 refused_lines why t = codes "refused " ++ (why ++ 10 ∷ merged_line t)
 
-abbrev pub merged : State → Outcome
-merged t = record { status = Done; bytes = merged_line t }
+-- of a client: why it refused, if it did, and what it merged
+abbrev pub lines_of : Option (List ℕ) → State → List ℕ
+lines_of None t = merged_line t
+lines_of (Some why) t = refused_lines why t
 
-abbrev pub refused_for : List ℕ → State → Outcome
-refused_for why t = record { status = StreamRefused; bytes = refused_lines why t }
+-- the command ends with this status, and writes this of a client, whose state is one that can exist
+abbrev pub Tells : Status → Option (List ℕ) → State → Ways
+Tells status why t o = IsTypedState t × (o ≡ record { status = status; bytes = lines_of why t })
 
 abbrev pub body_too_long : Outcome
 body_too_long = record { status = TooLong; bytes = codes "too long: body\n" }
@@ -35,15 +39,15 @@ body_too_long = record { status = TooLong; bytes = codes "too long: body\n" }
 
 -- the input is a body, and its last payload says that no more comes
 abbrev pub IsWhole : List ℕ → List ℕ → Ways
-IsWhole boundary input o = (t : State) × (length input ≤ budget) × Accepts boundary input t × AcceptsEnd boundary input t × (o ≡ merged t)
+IsWhole boundary input o = (t : State) × (length input ≤ budget) × Accepts boundary input t × AcceptsEnd boundary input t × Tells Done None t o
 
 -- the end of the input is refused
 abbrev pub IsEndRefused : List ℕ → List ℕ → Ways
-IsEndRefused boundary input o = (t : State) × (why : List ℕ) × (length input ≤ budget) × Accepts boundary input t × RefusesEnd boundary input t why × (o ≡ refused_for why t)
+IsEndRefused boundary input o = (t : State) × (why : List ℕ) × (length input ≤ budget) × Accepts boundary input t × RefusesEnd boundary input t why × Tells StreamRefused (Some why) t o
 
 -- a front of the input is refused, and what comes behind isn't heard
 abbrev pub IsFrontRefused : List ℕ → List ℕ → Ways
-IsFrontRefused boundary input o = (t : State) × (why front back : List ℕ) × (input ≡ front ++ back) × (length front ≤ budget) × Refuses boundary front t why × (o ≡ refused_for why t)
+IsFrontRefused boundary input o = (t : State) × (why front back : List ℕ) × (input ≡ front ++ back) × (length front ≤ budget) × Refuses boundary front t why × Tells StreamRefused (Some why) t o
 
 -- nothing is refused in as many bytes as are heard, and more come
 abbrev pub IsPastBudget : List ℕ → List ℕ → Ways
@@ -55,13 +59,8 @@ HeardWays boundary input o = IsWhole boundary input o ⊎ (IsEndRefused boundary
 -- the boundary is refused, or the input is heard
 abbrev pub ReplayWays : List ℕ → List ℕ → Ways
 ReplayWays boundary input o =
-    ((IsBoundary boundary → ⊥) × (o ≡ refused_for (at_byte 0 BadBoundary) fresh))
+    ((IsBoundary boundary → ⊥) × Tells StreamRefused (Some (at_byte 0 BadBoundary)) fresh o)
     ⊎ (IsBoundary boundary × HeardWays boundary input o)
-
--- what is written of a client: why it refused, if it did, and what it merged
-abbrev pub lines_of : Option (List ℕ) → State → List ℕ
-lines_of None t = merged_line t
-lines_of (Some why) t = refused_lines why t
 
 -- the statuses that the command ends with
 abbrev pub IsReplayed : Status → Type 0

@@ -7,7 +7,7 @@ ghost use Rattle.gql_multipart.specs.Past.{RefusesBoundary};
 ghost use Rattle.gql_multipart.specs.Body.{IsOpen};
 ghost use Rattle.gql_tool.specs.Client.{frame_name, merge_name, payload_name, at_byte, at_payload, at_end, counted, Takes, AreAll, Refuses, AcceptsEnd, RefusesEnd};
 ghost use Rattle.gql_tool.specs.declared.client.ClientRefusal.TheVariants as answer;
-ghost use Rattle.gql_tool.specs.Heard.{Heard, Stands, Took, nothing_heard, heard, IsMisframedBy, IsRefused, IsRefusedAtEnd, answer_of, reason_of};
+ghost use Rattle.gql_tool.specs.Heard.{Heard, Stands, Took, nothing_heard, heard, IsMisframedBy, IsRefused, IsRefusedAtEnd, StopsFor, answer_of, reason_of};
 
 use gql_merge::{MergeRefusal, Merger};
 use gql_multipart::{FrameKind, FrameRefusal, Reader, Step};
@@ -180,11 +180,12 @@ impl Client {
     }
 
     /// Takes the next bytes of the body, and decodes and merges each part that they complete. Once it
-    /// has refused, it gives that answer for good.
+    /// has refused, for want of memory too, it and `finish` give that answer for good.
     pub fn feed(&mut self, piece: &[u8]) -> Result<(), ClientRefusal>
         ensures taken { OnOk result ((h : Heard) → Stands self.old h → Stands self.new (heard h piece.now)) }
         ensures refused { result ≡ Err answer.Refused → (h : Heard) → Stands self.old h
             → IsRefused self.new h.boundary (h.bytes ++ piece.now) }
+        ensures stops { IfErr result (StopsFor self.new) }
         ensures for_good { (stop : Stop) → self.old.stop ≡ Some stop → (result ≡ Err (answer_of stop)) × (self.new ≡ self.old) }
         ensures cuts { self.new.cuts ≡ cond (is_ok result) (counted (self.old.cuts + 1)) self.old.cuts }
     {
@@ -199,11 +200,13 @@ impl Client {
     }
 
     /// The input has ended. Refuses bytes that are no body as `Truncated`, and a body whose last
-    /// payload said that more comes as `NotFinished`.
+    /// payload said that more comes as `NotFinished`. Once it has refused, for want of memory too, it
+    /// and `feed` give that answer for good.
     pub fn finish(&mut self) -> Result<(), ClientRefusal>
         ensures taken { OnOk result ((h : Heard) → Stands self.old h → Stands self.new h × AcceptsEnd h.boundary h.bytes self.new.merger.state) }
         ensures refused { result ≡ Err answer.Refused → (h : Heard) → Stands self.old h → IsRefusedAtEnd self.new h.boundary h.bytes }
         ensures merger { self.new.merger ≡ self.old.merger }
+        ensures stops { IfErr result (StopsFor self.new) }
         ensures for_good { (stop : Stop) → self.old.stop ≡ Some stop → (result ≡ Err (answer_of stop)) × (self.new ≡ self.old) }
     {
         self.going()?;
@@ -241,7 +244,7 @@ impl Client {
     /// Whether it takes bytes, or the answer that it gives for good.
     fn going(&self) -> Result<(), ClientRefusal>
         ensures going { OnOk result (self.now.stop ≡ None) }
-        ensures stopped { IfErr result (λ refusal. (stop : Stop) × (self.now.stop ≡ Some stop) × (refusal ≡ answer_of stop)) }
+        ensures stopped { IfErr result (StopsFor self.now) }
     {
         match &self.stop {
             None => Ok(()),

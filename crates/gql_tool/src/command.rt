@@ -8,7 +8,7 @@ ghost use Rattle.gql_tool.specs.Words.{form_of};
 ghost use Rattle.gql_tool.specs.Outcome.{names, file_limit};
 ghost use Rattle.gql_tool.specs.Local.{LocalWays};
 ghost use Rattle.gql_tool.specs.LocalClient.{IsNew, Asks, ClientEnds, ClientOf};
-ghost use Rattle.gql_tool.specs.Meets.{Meets, MeetsTold, Answers, IsAnswer, IsStop, IsJudged, IsComplete, IsEnd, ReadsFiles, ReadsInput, HasFiles, Ready, Serves, Finds, StopsAt, ended};
+ghost use Rattle.gql_tool.specs.Meets.{Meets, MeetsTold, Answers, IsAnswer, IsStop, IsJudged, IsComplete, IsEnd, ReadsFiles, ReadsInput, NoneLeft, HasFiles, Ready, Serves, Finds, StopsAt, ended};
 ghost use Rattle.gql_tool.specs.Served.{MergedWay};
 ghost use Rattle.gql_tool.specs.declared.shape.HeroDocument.{HeroDocument as DocumentOf};
 ghost use Rattle.gql_tool.specs.declared.tables.HeroTables.{HeroTables as TablesOf};
@@ -85,7 +85,7 @@ fn read_and_answer<S: Shelf, O: Sink>(
     ensures meets { MeetsTold (S.files shelf.old) (LocalWays words.now.schema.now words.now.tables.now words.now.document.now words.now.vars.now)
         (ended result) (O.sent output.old) (O.sent output.new) }
     ensures client { ClientEnds (Asks (S.files shelf.old) words.now.schema.now words.now.tables.now words.now.document.now words.now.vars.now) words.now.cut
-        client.old client.new (ended result) }
+        client.old client.new (O.sent output.old) (O.sent output.new) (ended result) }
     ensures statuses { IsAnswer (ended result) }
     ensures same { S.files shelf.new ≡ S.files shelf.old }
     ensures read_fault { Counts (S.faults shelf.old) (S.faults shelf.new) (ended result ≡ Status.ReadFault) }
@@ -116,8 +116,8 @@ fn status_of(end: Result<(), Status>) -> Status
 /// The command `local`: the request of three files is answered on this machine alone, and merged by the
 /// client.
 ///
-/// It reads the schema, the tables and the document in this order, each at most once, and ends at
-/// the first that is missing or has too many bytes with a line that names it. The client, which was
+/// It reads the schema, the tables and the document in this order, and ends at the first that is
+/// missing or has too many bytes with a line that names it. The client, which was
 /// made for the boundary `-` and fed nothing, is fed each piece of the answer when it was written, in
 /// cuts of so many bytes as the words say; the line that reports what it merged ends the output.
 pub fn local<S: Shelf, O: Sink>(
@@ -138,7 +138,7 @@ pub fn local<S: Shelf, O: Sink>(
     ensures answers { MeetsTold (S.files shelf.old) (LocalWays words.now.schema.now words.now.tables.now words.now.document.now words.now.vars.now) result
         (O.sent output.old) (O.sent output.new) }
     ensures client { ClientEnds (Asks (S.files shelf.old) words.now.schema.now words.now.tables.now words.now.document.now words.now.vars.now) words.now.cut
-        client.old client.new result }
+        client.old client.new (O.sent output.old) (O.sent output.new) result }
     ensures complete { HasFiles (S.files shelf.old) words.now.schema.now words.now.tables.now words.now.document.now
         → ¬ Rose (S.faults shelf.old) (S.faults shelf.new) → ¬ Rose (O.faults output.old) (O.faults output.new)
         → IsJudged result }
@@ -169,13 +169,17 @@ pub fn tool<S: Shelf, I: Source, O: Sink>(
 
     // The status, what is written and what the client is, where the one that is read tells.
     ensures answers { Answers (S.files shelf.old) (I.left input.old) (form_of words.now) result (O.sent output.old) (O.sent output.new) }
-    ensures client { ClientOf (S.files shelf.old) (form_of words.now) client.old client.new result }
+    ensures client { ClientOf (S.files shelf.old) (form_of words.now) client.old client.new (O.sent output.old) (O.sent output.new) result }
     ensures merges { (t : TablesOf) (d : DocumentOf) → Serves t d (I.left input.old) (form_of words.now)
         → Meets (MergedWay t d) result (O.sent output.old) (O.sent output.new) }
     ensures complete { Ready (S.files shelf.old) (I.left input.old) (form_of words.now)
         → ¬ Rose (S.faults shelf.old) (S.faults shelf.new) → ¬ Rose (I.faults input.old) (I.faults input.new)
         → ¬ Rose (O.faults output.old) (O.faults output.new) → IsComplete (form_of words.now) result }
 
+    // What is read, and what isn't.
+    ensures whole { ReadsInput (form_of words.now) → result ≡ Status.Done → NoneLeft (I.left input.old) (I.left input.new) }
+    ensures unread_input { (ReadsInput (form_of words.now) → ⊥) → input.new ≡ input.old }
+    ensures unread_shelf { (ReadsFiles (form_of words.now) → ⊥) → shelf.new ≡ shelf.old }
     ensures same { S.files shelf.new ≡ S.files shelf.old }
 {
     match parse(words) {

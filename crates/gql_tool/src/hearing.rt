@@ -4,8 +4,8 @@ ghost use Rattle.std.specs.Prelude.{◌≡◌, ◌+◌, ◌-◌, ◌<◌, ◌≤
 ghost use Rattle.std.specs.Io.KnownBytes.{Keeps};
 ghost use Rattle.gql_io.specs.Faults.{Counts};
 ghost use Rattle.gql_tool.specs.Heard.{Stands, nothing_heard};
-ghost use Rattle.gql_tool.specs.Hearing.{EndsAt, heard_of, hearing_of};
-ghost use Rattle.gql_tool.specs.Meets.{Meets, MeetsTold};
+ghost use Rattle.gql_tool.specs.Hearing.{EndsAt, StillTells, heard_of, hearing_of};
+ghost use Rattle.gql_tool.specs.Meets.{Meets, MeetsTold, NoneLeft};
 ghost use Rattle.gql_tool.specs.Served.{IsServed, MergedWay};
 ghost use Rattle.gql_tool.specs.declared.shape.HeroDocument.{HeroDocument as DocumentOf};
 ghost use Rattle.gql_tool.specs.declared.tables.HeroTables.{HeroTables as TablesOf};
@@ -56,6 +56,8 @@ fn hear_next<I: Source>(
     ensures goes_on { IfOk result (λ n. (0 < n) × (count + n ≤ budget)) }
     ensures heard { IfOk result (λ n. (boundary front rest : List ℕ) → length front ≡ count → I.left input.old ≡ Some rest → Stands client.old (heard_of boundary front)
         → (piece back : List ℕ) × (rest ≡ piece ++ back) × (length piece ≡ n) × (I.left input.new ≡ Some back) × Stands client.new (heard_of boundary (front ++ piece))) }
+    ensures told { IfOk result (λ _. StillTells (I.left input.old) (I.left input.new)) }
+    ensures ended { IsErrOf result Hearing.Ended → NoneLeft (I.left input.old) (I.left input.new) }
     ensures ends { IfErr result (λ end. (boundary front rest : List ℕ) → length front ≡ count → I.left input.old ≡ Some rest → Stands client.old (heard_of boundary front)
         → EndsAt boundary front rest client.new end) }
     ensures cause { Counts (I.faults input.old) (I.faults input.new) (IsErrOf result Hearing.Fault) }
@@ -79,6 +81,7 @@ fn hear_next<I: Source>(
 pub(crate) fn hear<I: Source>(client: &mut Client, input: &mut I) -> Hearing
     ensures ends { (boundary bytes : List ℕ) → I.left input.old ≡ Some bytes → Stands client.old (nothing_heard boundary)
         → (front rest : List ℕ) × (bytes ≡ front ++ rest) × (length front ≤ budget) × EndsAt boundary front rest client.new result }
+    ensures ended { result ≡ Hearing.Ended → NoneLeft (I.left input.old) (I.left input.new) }
     ensures cause { Counts (I.faults input.old) (I.faults input.new) (result ≡ Hearing.Fault) }
 {
     let mut room = [0; 65_536];
@@ -115,6 +118,7 @@ fn replay_to<I: Source, O: Sink>(
     ensures meets { (boundary bytes : List ℕ) → I.left input.old ≡ Some bytes → Stands client.old (nothing_heard boundary)
         → Meets (HeardWays boundary bytes) result (O.sent output.old) (O.sent output.new) }
     ensures untold { result ≡ Status.ReadFault → Keeps (O.sent output.old) (O.sent output.new) }
+    ensures whole { result ≡ Status.Done → NoneLeft (I.left input.old) (I.left input.new) }
     ensures statuses { IsReplayed result }
     ensures read_fault { Counts (I.faults input.old) (I.faults input.new) (result ≡ Status.ReadFault) }
     ensures write_fault { Counts (O.faults output.old) (O.faults output.new) (result ≡ Status.WriteFault) }
@@ -139,6 +143,7 @@ pub fn replay<I: Source, O: Sink>(
     output: &mut O,
 ) -> Status
     ensures answers { MeetsTold (I.left input.old) (ReplayWays boundary.now) result (O.sent output.old) (O.sent output.new) }
+    ensures whole { result ≡ Status.Done → NoneLeft (I.left input.old) (I.left input.new) }
     ensures statuses { IsReplayed result }
     ensures read_fault { Counts (I.faults input.old) (I.faults input.new) (result ≡ Status.ReadFault) }
     ensures write_fault { Counts (O.faults output.old) (O.faults output.new) (result ≡ Status.WriteFault) }

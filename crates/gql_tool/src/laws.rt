@@ -1,4 +1,4 @@
-//! Laws of the requests that are built.
+//! Laws of the right outcomes, and of the requests that are built.
 
 ghost use Rattle.std.specs.Prelude.{◌≡◌, ℕ, List, [], Some};
 ghost use Rattle.gql_tree.specs.declared.Value.{Value};
@@ -14,9 +14,23 @@ ghost use Rattle.gql_tool.specs.Shape.{hero_of};
 ghost use Rattle.gql_tool.specs.Written.{IsWritten, plain_hero, deferred_hero, bubbling_hero};
 ghost use Rattle.gql_tool.specs.declared.tables.HeroTables.{HeroTables};
 ghost use Rattle.gql_tool.specs.declared.request.Request.TheVariants.{Built};
-ghost use Rattle.gql_tool.specs.Local.{Judged, regions};
+ghost use Rattle.gql_io.specs.Files.{Files};
+ghost use Rattle.gql_tool.specs.Outcome.{Outcome};
+ghost use Rattle.gql_tool.specs.Local.{Judged, regions, LocalWays};
 ghost use Rattle.gql_tool.specs.Operation.{nodes_of};
+ghost use Rattle.gql_tool.specs.Replay.{ReplayWays};
 ghost use Rattle.gql_tool.specs.Service.{service, query};
+
+/// For the same words and files one outcome of `local` is right.
+pub fn local_has_one_outcome()
+    ensures { (schema tables document vars : List ℕ) (files : Files) (a b : Outcome)
+        → LocalWays schema tables document vars files a → LocalWays schema tables document vars files b → a ≡ b }
+{}
+
+/// For the same boundary and input one outcome of `replay` is right.
+pub fn replay_has_one_outcome()
+    ensures { (boundary input : List ℕ) (a b : Outcome) → ReplayWays boundary input a → ReplayWays boundary input b → a ≡ b }
+{}
 
 /// Where no deferred piece of a request fails, what a client has in the end is the response of plain
 /// execution, in which `@defer` is taken as absent: the same data, and of the errors those at places that

@@ -36,7 +36,10 @@ mod words;
 pub use client::{Client, ClientRefusal};
 pub use command::{local, tool};
 pub use hearing::replay;
-pub use laws::{a_response_without_failures_is_plain, executed_documents, worked_documents};
+pub use laws::{
+    a_response_without_failures_is_plain, executed_documents, local_has_one_outcome,
+    replay_has_one_outcome, worked_documents,
+};
 pub use local_words::LocalWords;
 pub use status::Status;
 pub use tables::worked_tables;

@@ -1,11 +1,12 @@
 //! Writing what a client merged.
 
-ghost use Rattle.std.specs.Prelude.{◌≡◌, ◌⊎◌, IfOk, IfErr, IsErrOf};
+ghost use Rattle.std.specs.Prelude.{◌≡◌, ◌⊎◌, IfOk, OnOk, IsErrOf};
 ghost use Rattle.gql_io.specs.Faults.{Counts};
-ghost use Rattle.gql_io.specs.Told.{Puts};
+ghost use Rattle.gql_merge.specs.Same.{IsTypedState};
+ghost use Rattle.gql_tool.specs.Handed.{PutsLine};
 ghost use Rattle.gql_tool.specs.Heard.{reason_of};
 ghost use Rattle.gql_tool.specs.Meets.{Meets};
-ghost use Rattle.gql_tool.specs.Replay.{lines_of, merged_line};
+ghost use Rattle.gql_tool.specs.Replay.{lines_of, merged_line, Tells};
 
 use crate::Status;
 use crate::client::Client;
@@ -15,7 +16,8 @@ use std::alloc::Global;
 
 /// The line that reports what a client merged.
 fn merged_line(alloc: Global, client: &Client) -> Result<Text, NoMemory>
-    ensures { IfOk result (λ text. text ≡ merged_line client.now.merger.state) }
+    ensures line { IfOk result (λ text. text ≡ merged_line client.now.merger.state) }
+    ensures typed { OnOk result (IsTypedState client.now.merger.state) }
 {
     let report = client.merger().report()?;
     let report = report.as_str();
@@ -28,8 +30,7 @@ pub(crate) fn put_merged_line<O: Sink>(
     client: &Client,
     output: &mut O,
 ) -> Result<(), Status>
-    ensures sent { Puts (O.sent output.old) (O.sent output.new) (merged_line client.now.merger.state) result }
-    ensures statuses { IfErr result (λ status. (status ≡ Status.NoMemory) ⊎ (status ≡ Status.WriteFault)) }
+    ensures sent { PutsLine client.now.merger.state (O.sent output.old) (O.sent output.new) result }
     ensures write_fault { Counts (O.faults output.old) (O.faults output.new) (IsErrOf result Status.WriteFault) }
 {
     let line = merged_line(alloc, client)?;
@@ -41,7 +42,8 @@ pub(crate) fn put_merged_line<O: Sink>(
 
 /// What is written of a client.
 fn lines(alloc: Global, client: &Client) -> Result<Text, NoMemory>
-    ensures { IfOk result (λ text. text ≡ lines_of (reason_of client.now.stop) client.now.merger.state) }
+    ensures lines { IfOk result (λ text. text ≡ lines_of (reason_of client.now.stop) client.now.merger.state) }
+    ensures typed { OnOk result (IsTypedState client.now.merger.state) }
 {
     let merged = merged_line(alloc, client)?;
     match client.reason() {
@@ -75,8 +77,7 @@ pub(crate) fn put_lines<O: Sink>(
     output: &mut O,
 ) -> Status
     requires { (status ≡ Status.Done) ⊎ (status ≡ Status.StreamRefused) }
-    ensures meets { Meets (λ o. o ≡ record { status = status; bytes = lines_of (reason_of client.now.stop) client.now.merger.state }) result
-        (O.sent output.old) (O.sent output.new) }
+    ensures meets { Meets (Tells status (reason_of client.now.stop) client.now.merger.state) result (O.sent output.old) (O.sent output.new) }
     ensures statuses { (result ≡ status) ⊎ ((result ≡ Status.WriteFault) ⊎ (result ≡ Status.NoMemory)) }
     ensures write_fault { Counts (O.faults output.old) (O.faults output.new) (result ≡ Status.WriteFault) }
 {

@@ -8,7 +8,7 @@ ghost use Rattle.gql_tool.specs.LocalClient.{IsNew, ClientEnds};
 ghost use Rattle.gql_tool.specs.Meets.{Meets, IsWork, IsDelivery, ended};
 ghost use Rattle.gql_tool.specs.Shape.{hero_of};
 ghost use Rattle.gql_tool.specs.HeroTables.{tables_in};
-ghost use Rattle.gql_tool.specs.Hero.{EachOnce, RefStands, IsPlaced, CanRun, answer_of};
+ghost use Rattle.gql_tool.specs.Hero.{EachOnce, RefStands, IsPlaced, TablesFit, CanRun, answer_of};
 
 use crate::Status;
 use crate::client::Client;
@@ -238,11 +238,12 @@ fn execute<O: Sink>(
     requires once { EachOnce document.now }
     requires stands { RefStands tables.now }
     requires placed { IsPlaced document.now }
+    requires fit { TablesFit tables.now }
     requires cut { 0 < cut }
     requires client { IsNew client.old }
     ensures meets { Meets (Answered (Request.Built tables.now document.now)) (ended result) (O.sent output.old) (O.sent output.new) }
     ensures statuses { IfErr result IsDelivery }
-    ensures client { ClientEnds (λ t d. (t ≡ tables.now) × (d ≡ document.now)) cut client.old client.new (ended result) }
+    ensures client { ClientEnds (λ t d. (t ≡ tables.now) × (d ≡ document.now)) cut client.old client.new (O.sent output.old) (O.sent output.new) (ended result) }
     ensures write_fault { Counts (O.faults output.old) (O.faults output.new) (IsErrOf result Status.WriteFault) }
 {
     deliver(alloc, tables, document, cut, output, client)?;
@@ -262,7 +263,7 @@ pub(crate) fn answer<O: Sink>(
     requires client { IsNew client.old }
     ensures meets { Meets (Answered request.now) (ended result) (O.sent output.old) (O.sent output.new) }
     ensures statuses { IfErr result IsWork }
-    ensures client { ClientEnds (λ t d. request.now ≡ Request.Built t d) cut client.old client.new (ended result) }
+    ensures client { ClientEnds (λ t d. request.now ≡ Request.Built t d) cut client.old client.new (O.sent output.old) (O.sent output.new) (ended result) }
     ensures write_fault { Counts (O.faults output.old) (O.faults output.new) (IsErrOf result Status.WriteFault) }
 {
     match request {

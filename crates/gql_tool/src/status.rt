@@ -18,7 +18,7 @@ pub enum Status {
     WriteFault,
     /// There was no memory left.
     NoMemory,
-    /// The client refused the bytes of an answer.
+    /// The client refused: of `local` a text that is longer than a part may be, of `replay` its input.
     StreamRefused,
     /// A file is missing, and what is written names it.
     NoFile,

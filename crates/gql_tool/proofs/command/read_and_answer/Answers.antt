@@ -1,4 +1,5 @@
 use Rattle.std.proofs.Common.{ℕ, List}
+use Rattle.std.proofs.KnownBytes.{Keeps-trans}
 use Rattle.gql_io.specs.Files.{Files}
 use Rattle.gql_tool.specs.Outcome.{Ways, AfterFile}
 use Rattle.gql_tool.specs.Local.{RequestWays}
@@ -49,5 +50,6 @@ returns-clause-meets g c =
 
 pub returns-clause-client : goal.returns-clause-client
 returns-clause-client g c =
-    client_of _ _ _ c.args.words.now.schema.now c.args.words.now.tables.now c.args.words.now.document.now c.args.words.now.vars.now c.in_ok-schema.schema c.in_ok-tables.tables c.in_ok-document.document _ _ _ _ c.args.words.now.cut _ _ _
-    c.in_ok-schema.ensures.same c.in_ok-tables.ensures.same c.in_ok-schema.ensures.found c.in_ok-tables.ensures.found c.in_ok-document.ensures.found c.as_slice.ensures c.as_slice-2.ensures c.as_slice-3.ensures c.in_ok-request.ensures.judged c.answer.ensures.client
+    client_of _ _ _ c.args.words.now.schema.now c.args.words.now.tables.now c.args.words.now.document.now c.args.words.now.vars.now c.in_ok-schema.schema c.in_ok-tables.tables c.in_ok-document.document _ _ _ _ c.args.words.now.cut _ _ _ _ _ _
+    c.in_ok-schema.ensures.same c.in_ok-tables.ensures.same c.in_ok-schema.ensures.found c.in_ok-tables.ensures.found c.in_ok-document.ensures.found c.as_slice.ensures c.as_slice-2.ensures c.as_slice-3.ensures c.in_ok-request.ensures.judged
+    (Keeps-trans _ _ _ c.in_ok-schema.ensures.kept (Keeps-trans _ _ _ c.in_ok-tables.ensures.kept c.in_ok-document.ensures.kept)) c.answer.ensures.client

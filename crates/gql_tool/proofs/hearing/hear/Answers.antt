@@ -1,4 +1,5 @@
 use Rattle.std.proofs.Common.{◌∙◌, sym, ap, arith, append_assoc, length-append, List, ℕ, ◌++◌}
+use Rattle.gql_tool.proofs.Replays.{StillTells-trans}
 use Rattle.gql_tool.proofs.hearing.hear.Goals as goal
 
 pub loop-taken-preserved : goal.loop-taken-preserved
@@ -9,6 +10,7 @@ loop-taken-preserved g c = (
       (let from = c.loop-taken.invariant.2 boundary bytes left stands in
       let next = c.in-Ok.ensures.heard boundary from.0 from.1 from.3 from.4 from.5 in
       (from.0 ++ next.0, next.1, from.2 ∙ (ap (λ (xs : List ℕ). from.0 ++ xs) next.2 ∙ sym (append_assoc from.0 next.0 next.1)), omega (arith, length-append from.0 next.0, from.3, next.3), next.4, next.5))),
+  StillTells-trans _ _ _ c.loop-taken.invariant.3 c.in-Ok.ensures.told,
 )
 
 pub returns-in-Err-clause-ends : goal.returns-in-Err-clause-ends
