@@ -4,7 +4,7 @@ use Rattle.std.proofs.lemmas.List.{append-nil, take-append-drop, map_push}
 use Rattle.gql_lex.specs.Tokens.{Lexeme, lexeme, told, Lexes, End, Whole, Refused, next_of, done_with, left, Stands}
 use Rattle.gql_lex.specs.declared.lexer.Lexer.{Lexer}
 use Rattle.gql_lex.specs.declared.token.Token.{Token}
-use Rattle.gql_lex.specs.declared.token.LexRefusal.{LexRefusal}
+use Rattle.gql_lex.specs.declared.refusal.LexRefusal.{LexRefusal}
 
 -- Some tokens of a text were taken: those that a lexer still gives are the others.
 pub record Lexed (text : List ℕ) (lexer : Lexer) (items : List Token) : Type 0 where

@@ -1,3 +1,4 @@
+pub mod Refusals
 pub mod StringValue
 pub mod Quoting
 pub mod Pieces

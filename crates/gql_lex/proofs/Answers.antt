@@ -6,7 +6,7 @@ use Rattle.std.proofs.lemmas.Str.{IsUtf8-drop, IsCharBoundary-before_ascii, IsCh
 use Rattle.gql_tree.specs.declared.Spot.{Spot}
 use Rattle.gql_lex.specs.declared.scan.Found.TheVariants.{Wrong}
 use Rattle.gql_lex.specs.declared.scan.Fault.{Fault}
-use Rattle.gql_lex.specs.declared.token.LexRefusal.{LexRefusal}
+use Rattle.gql_lex.specs.declared.refusal.LexRefusal.{LexRefusal}
 use Rattle.gql_lex.specs.Places.{spot_at}
 use Rattle.gql_lex.specs.Front.{front}
 use Rattle.gql_lex.specs.Tokens.{blanks, refusal, answer_by, next_of}

@@ -1,6 +1,6 @@
 -- The tokens of a text are determined.
 use Rattle.std.proofs.Common.{◌≡◌, ℕ, List, [], ◌∷◌, ◌++◌, take, drop, Option, Some, Result, Ok, refl, sym, ◌∙◌}
-use Rattle.gql_lex.specs.declared.token.LexRefusal.{LexRefusal}
+use Rattle.gql_lex.specs.declared.refusal.LexRefusal.{LexRefusal}
 use Rattle.gql_lex.specs.Tokens.{Lexeme, End, Whole, Refused, ended, done_with, Lexes}
 
 one_token : (t u : Lexeme) → (let a : Result (Option Lexeme) LexRefusal = Ok (Some t) in let b : Result (Option Lexeme) LexRefusal = Ok (Some u) in a ≡ b) → t ≡ u

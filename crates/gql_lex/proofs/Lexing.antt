@@ -6,7 +6,7 @@ use Rattle.std.proofs.lemmas.List.{get_or-drop, drop-drop}
 use Rattle.std.proofs.lemmas.Str.{IsUtf8-take, IsUtf8-drop, IsCharBoundary-before_ascii, IsCharBoundary-after_ascii}
 use Rattle.gql_lex.specs.declared.scan.Found.{Found}
 use Rattle.gql_lex.specs.declared.scan.Found.TheVariants.{Token, Wrong}
-use Rattle.gql_lex.specs.declared.token.LexRefusal.{LexRefusal}
+use Rattle.gql_lex.specs.declared.refusal.LexRefusal.{LexRefusal}
 use Rattle.gql_lex.specs.Front.{front}
 use Rattle.gql_lex.specs.Tokens.{Lexeme, End, Whole, Refused, answer_by, blanks, next_of, done_by, done_with, Lexes}
 use Rattle.gql_lex.proofs.Texts.{IsTextOf}

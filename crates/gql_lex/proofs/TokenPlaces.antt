@@ -10,7 +10,7 @@ use Rattle.gql_lex.specs.declared.scan.Found.{Found}
 use Rattle.gql_lex.specs.declared.scan.Found.TheVariants.{Token, Wrong}
 use Rattle.gql_lex.specs.declared.scan.Fault.{Fault}
 use Rattle.gql_lex.specs.declared.scan.Fault.TheVariants as fault
-use Rattle.gql_lex.specs.declared.token.LexRefusal.{LexRefusal}
+use Rattle.gql_lex.specs.declared.refusal.LexRefusal.{LexRefusal}
 use Rattle.gql_lex.specs.Tokens.{Lexeme, End, Refused, refusal, Lexes, blanks, answer_by, next_of, done_with}
 use Rattle.gql_lex.proofs.Answers.{take-split}
 use Rattle.gql_lex.proofs.Lexing.{is_next}

@@ -1,3 +1,4 @@
+pub mod Refusals
 pub mod Classes
 pub mod Places
 pub mod Runs

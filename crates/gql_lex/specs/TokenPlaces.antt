@@ -1,8 +1,8 @@
 -- Where tokens stand in a text.
 use Rattle.std.specs.Prelude.{◌≡◌, ◌≢◌, ℕ, ◌+◌, ◌≤◌, List, [], ◌∷◌, ◌++◌, length}
 use Rattle.gql_tree.specs.declared.Spot.{Spot}
-use Rattle.gql_lex.specs.declared.token.LexRefusal.{LexRefusal}
-use Rattle.gql_lex.specs.declared.token.LexRefusal.TheVariants.{BadCharacter, BadEscape, OpenString, BadNumber, FloatToken}
+use Rattle.gql_lex.specs.declared.refusal.LexRefusal.{LexRefusal}
+use Rattle.gql_lex.specs.declared.refusal.LexRefusal.TheVariants.{BadCharacter, BadEscape, OpenString, BadNumber, FloatToken}
 use Rattle.gql_lex.specs.Places.{spot_at}
 use Rattle.gql_lex.specs.Tokens.{Lexeme}
 

@@ -11,8 +11,8 @@ use Rattle.gql_lex.specs.declared.scan.Fault.{Fault}
 use Rattle.gql_lex.specs.declared.scan.Fault.TheVariants as fault
 use Rattle.gql_lex.specs.declared.token.TokenKind.{TokenKind}
 use Rattle.gql_lex.specs.declared.token.Token.{Token}
-use Rattle.gql_lex.specs.declared.token.LexRefusal.{LexRefusal}
-use Rattle.gql_lex.specs.declared.token.LexRefusal.TheVariants.{BadCharacter, BadEscape, OpenString, BadNumber, FloatToken}
+use Rattle.gql_lex.specs.declared.refusal.LexRefusal.{LexRefusal}
+use Rattle.gql_lex.specs.declared.refusal.LexRefusal.TheVariants.{BadCharacter, BadEscape, OpenString, BadNumber, FloatToken}
 use Rattle.gql_lex.specs.declared.lexer.Lexer.{Lexer}
 
 -- a token: its kind, its bytes, how many bytes stand before it in the text, and its place

@@ -9,7 +9,7 @@ ghost use Rattle.gql_lex.specs.Front.{front};
 ghost use Rattle.gql_lex.specs.StringTexts.{begins_quotes, IsQuoted, IsBlock};
 ghost use Rattle.gql_lex.specs.TokenPlaces.{IsSliceOf, RiseFrom, end_of_all, IsRefusedIn};
 ghost use Rattle.gql_lex.specs.Tokens.{Lexeme, End, Refused, Lexes};
-ghost use Rattle.gql_lex.specs.declared.token.LexRefusal.{LexRefusal};
+ghost use Rattle.gql_lex.specs.declared.refusal.LexRefusal.{LexRefusal};
 ghost use Rattle.gql_lex.specs.declared.token.TokenKind.TheVariants as kind;
 ghost use Rattle.gql_lex.specs.declared.scan.Found.TheVariants.{Token, Wrong};
 ghost use Rattle.gql_lex.specs.declared.scan.Fault.{Fault};

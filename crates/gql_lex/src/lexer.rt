@@ -4,9 +4,10 @@ ghost use Rattle.std.specs.Prelude.{◌≡◌, ℕ, List, [], ◌++◌, ◌+◌,
 ghost use Rattle.gql_lex.specs.Places.{spot_at};
 
 use crate::place::behind_all;
+use crate::refusal::LexRefusal;
 use crate::run::{Pieces, run_len};
 use crate::scan::{Found, front, refusal};
-use crate::token::{LexRefusal, Token, TokenKind};
+use crate::token::{Token, TokenKind};
 use gql_tree::Spot;
 
 /// Gives the tokens of a text one after another.

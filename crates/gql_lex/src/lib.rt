@@ -15,6 +15,7 @@ mod laws;
 mod lexer;
 mod number;
 mod place;
+mod refusal;
 mod run;
 mod scan;
 mod string;
@@ -27,4 +28,5 @@ pub use laws::{
     tokens_are_determined, tokens_stand_in_their_text,
 };
 pub use lexer::Lexer;
-pub use token::{LexRefusal, Token, TokenKind};
+pub use refusal::LexRefusal;
+pub use token::{Token, TokenKind};

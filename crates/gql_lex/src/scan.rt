@@ -8,8 +8,9 @@ ghost use Rattle.gql_lex.specs.Front.{front};
 ghost use Rattle.gql_lex.specs.Tokens.{refusal};
 
 use crate::number::number;
+use crate::refusal::LexRefusal;
 use crate::string::string;
-use crate::token::{LexRefusal, TokenKind};
+use crate::token::TokenKind;
 use gql_tree::Spot;
 
 /// What stands at the front.

@@ -1,4 +1,4 @@
-//! Tokens, and what is none.
+//! Tokens.
 
 use gql_tree::Spot;
 
@@ -25,19 +25,4 @@ pub struct Token<'a> {
     pub start: usize,
     /// Where it begins.
     pub spot: Spot,
-}
-
-/// What stands in a text that is no token, and where.
-#[derive(Clone, Copy, Debug, PartialEq, Eq)]
-pub enum LexRefusal {
-    /// A character that begins no token, or that stands nowhere.
-    BadCharacter(Spot),
-    /// A backslash in a quoted string that begins no escape, or an escape of half a surrogate pair.
-    BadEscape(Spot),
-    /// The first quote of a string that doesn't end.
-    OpenString(Spot),
-    /// A digit or `-` that begins no number, or a number that runs into what follows it.
-    BadNumber(Spot),
-    /// A number with a fraction or an exponent.
-    FloatToken(Spot),
 }

@@ -1,3 +1,4 @@
+pub mod Refusals
 pub mod Steps
 pub mod Order
 pub mod Apply

@@ -2,4 +2,3 @@ mod Each
 mod Below
 mod ObjectDepth
 mod ForestDepth
-mod Texts

@@ -6,10 +6,7 @@ use Rattle.gql_tree.specs.declared.Value.TheVariants as v
 use Rattle.gql_tree.specs.declared.Fault.{Fault}
 use Rattle.gql_tree.specs.declared.Outcome.{Outcome}
 use Rattle.gql_tree.specs.declared.RegionResult.{RegionResult}
-use Rattle.gql_tree.specs.declared.Payload.{Payload}
-use Rattle.gql_tree.specs.Forest.{tasks_of}
-use Rattle.gql_tree.specs.FirstPayloads.{first_payloads}
-use Rattle.gql_tree.specs.PayloadText.{payload_text}
+use Rattle.gql_tree.specs.Forest.{Forest, tasks_of}
 use Rattle.gql_model.specs.declared.operation.Node.{Node}
 use Rattle.gql_model.specs.Region.{initial_region, task_region}
 use Rattle.gql_model.specs.Operations.{forest}
@@ -33,11 +30,8 @@ outcomes nodes = map (λ r. r.outcome) (next_regions nodes)
 abbrev pub faults : List Node → List (List Fault)
 faults nodes = map (λ r. r.faults) (next_regions nodes)
 
-abbrev pub payloads : List Node → List Payload
-payloads nodes = first_payloads (forest service nodes query)
-
-abbrev pub texts : List Node → List (List ℕ)
-texts nodes = map payload_text (payloads nodes)
+abbrev pub regions : List Node → Forest
+regions nodes = forest service nodes query
 
 -- ---- short forms
 

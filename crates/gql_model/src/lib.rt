@@ -26,4 +26,4 @@ pub use syntax::{
     Argument, Definition, DirectiveUse, Document, FieldNode, FragmentDef, InlineNode, Literal,
     OperationDef, OperationKind, Selection, SpreadNode, TypeRef, VariableDef,
 };
-pub use worked::{worked_plain, worked_regions, worked_texts};
+pub use worked::{worked_plain, worked_regions};

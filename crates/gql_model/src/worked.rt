@@ -1,11 +1,10 @@
-ghost use Rattle.std.specs.Prelude.{◌≡◌, pos, [], ◌∷◌, Some, codes, length};
+ghost use Rattle.std.specs.Prelude.{◌≡◌, pos, [], ◌∷◌, Some, codes};
 ghost use Rattle.gql_tree.specs.declared.Key.TheVariants.{Name, Index};
 ghost use Rattle.gql_tree.specs.declared.Value.TheVariants as v;
 ghost use Rattle.gql_tree.specs.declared.Outcome.TheVariants.{Good, Failed};
-ghost use Rattle.gql_tree.specs.Frame.{frame};
 ghost use Rattle.gql_model.specs.Sample.{plain as plain_nodes, one_deferred, bubbling, null_item, shared, stream, type_names, failing};
 ghost use Rattle.gql_model.specs.Plain.{kept};
-ghost use Rattle.gql_model.specs.Worked.{initial, plain, outcomes, faults, texts, one, two, fault, grouped, labelled, counted};
+ghost use Rattle.gql_model.specs.Worked.{initial, plain, outcomes, faults, one, two, fault, grouped, labelled, counted};
 
 /// The regions that worked operations have by the definitions.
 pub fn worked_regions()
@@ -67,29 +66,4 @@ pub fn worked_plain()
     ensures kept { kept (one (codes "hero") v.Null)
         (fault (codes "bang") 37 (Name (codes "hero") ∷ Name (codes "boom") ∷ []) ∷ fault (codes "gone") 3 (Name (codes "hero") ∷ []) ∷ [])
         ≡ fault (codes "gone") 3 (Name (codes "hero") ∷ []) ∷ [] }
-{}
-
-/// The texts of the payloads that worked operations have by the definitions.
-pub fn worked_texts()
-    // { hero { id } }
-    ensures plain { texts plain_nodes ≡ codes "{\"data\":{\"hero\":{\"id\":\"1\"}}}" ∷ [] }
-
-    // { hero { id ... @defer(label:"D") { name } } }
-    ensures deferred { texts one_deferred
-        ≡ codes "{\"data\":{\"hero\":{\"id\":\"1\"}},\"hasNext\":true,\"pending\":[{\"id\":\"0\",\"label\":\"D\",\"path\":[\"hero\"]}]}"
-        ∷ codes "{\"completed\":[{\"id\":\"0\"}],\"hasNext\":false,\"incremental\":[{\"data\":{\"name\":\"Luke\"},\"id\":\"0\"}]}" ∷ [] }
-    ensures deferred_body { length (frame (texts one_deferred)) ≡ 305 }
-
-    // { hero { id boom ... @defer { name } } }
-    ensures bubbled { texts bubbling
-        ≡ codes "{\"data\":{\"hero\":null},\"errors\":[{\"locations\":[{\"column\":13,\"line\":1}],\"message\":\"bang\",\"path\":[\"hero\",\"boom\"]}]}" ∷ [] }
-
-    // { crew { name } }
-    ensures null_item { texts null_item
-        ≡ codes "{\"data\":{\"crew\":null},\"errors\":[{\"locations\":[{\"column\":10,\"line\":1}],\"message\":\"Null in a non-null position\",\"path\":[\"crew\",2,\"name\"]}]}" ∷ [] }
-
-    // { hero { id ... @defer(label:"D") { boom } } }: the deferred piece fails, and its error is in its completed record alone
-    ensures failing { texts failing
-        ≡ codes "{\"data\":{\"hero\":{\"id\":\"1\"}},\"hasNext\":true,\"pending\":[{\"id\":\"0\",\"label\":\"D\",\"path\":[\"hero\"]}]}"
-        ∷ codes "{\"completed\":[{\"errors\":[{\"locations\":[{\"column\":37,\"line\":1}],\"message\":\"bang\",\"path\":[\"hero\",\"boom\"]}],\"id\":\"0\"}],\"hasNext\":false}" ∷ [] }
 {}

@@ -3,7 +3,7 @@ use Rattle.std.proofs.Common.{◌≡◌, ℕ, List, [], ◌∷◌, ◌++◌, Boo
 use Rattle.std.proofs.lemmas.List.{append-nil}
 use Rattle.std.specs.List.{concat, flat_map}
 use Rattle.std.proofs.lemmas.List.Concat.{flat_map-append}
-use Rattle.gql_tree.specs.Frame.{mark, piece, pieces, frame}
+use Rattle.gql_multipart.specs.Frame.{mark, piece, pieces, frame}
 use Rattle.gql_multipart.specs.Framed.{opening, closing, framed, pieces_of, at_first, so_far}
 
 -- a piece that closes nothing, and more

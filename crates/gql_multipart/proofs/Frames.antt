@@ -3,7 +3,7 @@ use Rattle.std.proofs.Common.{◌≡◌, ℕ, inl, inr, IsTrue, Bool, true, List
 use Rattle.std.proofs.lemmas.Bool.{eqb-false}
 use Rattle.std.proofs.lemmas.List.Elements.{recursion_from_All}
 use Rattle.std.specs.List.{AllByRecursion as Each, flat_map, list_all}
-use Rattle.gql_tree.specs.Frame.{crlf, header, piece, pieces, frame, mark as frame_mark}
+use Rattle.gql_multipart.specs.Frame.{crlf, header, piece, pieces, frame, mark as frame_mark}
 use Rattle.gql_multipart.specs.Framed.{so_far, IsFramable}
 use Rattle.gql_multipart.specs.Body.{dashes, boundary_byte, token_byte, value_byte, HoldsNoMark, IsBoundary, IsHeader, IsPart, Parts, Body, Complete}
 use Rattle.gql_multipart.proofs.Lists.{NoCr}

@@ -3,7 +3,7 @@ use Rattle.std.proofs.Common.{◌≡◌, ◌≢◌, ℕ, inl, inr, true, IsTrue,
 use Rattle.std.proofs.lemmas.List.Elements.{All-nil}
 use Rattle.std.specs.List.{AllByRecursion as Each, flat_map}
 use Rattle.std.proofs.lemmas.List.Concat.{flat_map-append}
-use Rattle.gql_tree.specs.Frame.{crlf, piece, frame, mark as frame_mark}
+use Rattle.gql_multipart.specs.Frame.{crlf, piece, frame, mark as frame_mark}
 use Rattle.gql_multipart.specs.Framed.{so_far, IsFramable, IsLine, IsLongLine, AreFirst}
 use Rattle.gql_multipart.specs.Body.{blank_byte, dashes, IsOpening, Parts, Begins, Body, Complete, IsOpen}
 use Rattle.gql_multipart.proofs.Frames.{pieces_end, frame_is_body}

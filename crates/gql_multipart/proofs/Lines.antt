@@ -3,7 +3,7 @@ use Rattle.std.proofs.Common.{◌≡◌, ℕ, inl, inr, IsTrue, Bool, true, fals
 use Rattle.std.proofs.lemmas.Bool.{eqb-false}
 use Rattle.std.proofs.lemmas.List.Elements.{recursion_from_All}
 use Rattle.std.specs.List.{AllByRecursion as Each, concat}
-use Rattle.gql_tree.specs.Frame.{crlf, header, piece, mark as frame_mark}
+use Rattle.gql_multipart.specs.Frame.{crlf, header, piece, mark as frame_mark}
 use Rattle.gql_multipart.specs.Framed.{IsLine}
 use Rattle.gql_multipart.specs.Body.{blank_byte, token_byte, value_byte, IsLineEnd, IsHeaderLine, IsHeader, IsContent, IsPart}
 use Rattle.gql_multipart.proofs.Lists.{NoCr}

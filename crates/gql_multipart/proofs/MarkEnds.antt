@@ -1,9 +1,9 @@
 -- What stands behind a mark is read as its relation says.
 use Rattle.std.proofs.Common.{◌≡◌, ℕ, ◌+◌, ◌⊎◌, inl, inr, Bool, true, false, ◌==◌, if◌then◌else◌, IsTrue, List, [], ◌∷◌, ◌++◌, length, drop, Result, Ok, Err, refl, sym, ap, ◌∙◌, subst, arith, drop_at, drop-drop, eqb-true}
 use Rattle.std.specs.List.{AllByRecursion as Each}
-use Rattle.gql_tree.specs.Frame.{crlf}
-use Rattle.gql_multipart.specs.declared.reader.FrameKind.{FrameKind}
-use Rattle.gql_multipart.specs.declared.reader.FrameKind.TheVariants.{BadDelimiter}
+use Rattle.gql_multipart.specs.Frame.{crlf}
+use Rattle.gql_multipart.specs.declared.refusal.FrameKind.{FrameKind}
+use Rattle.gql_multipart.specs.declared.refusal.FrameKind.TheVariants.{BadDelimiter}
 use Rattle.gql_multipart.specs.declared.place.Place.TheVariants.{Blanks}
 use Rattle.gql_multipart.specs.declared.read.Stop.{Stop}
 use Rattle.gql_multipart.specs.declared.read.Stop.TheVariants.{More, Ended, Refused}

@@ -3,7 +3,7 @@ use Rattle.std.proofs.Common.{◌≡◌, ◌≢◌, ℕ, suc, ◌+◌, ◌-◌, 
 use Rattle.std.proofs.lemmas.Bool.{eqb-false}
 use Rattle.std.proofs.lemmas.List.{drop_more, drop_all}
 use Rattle.std.specs.List.{AllByRecursion as Each, concat}
-use Rattle.gql_tree.specs.Frame.{crlf}
+use Rattle.gql_multipart.specs.Frame.{crlf}
 use Rattle.gql_multipart.specs.declared.place.Place.{Place}
 use Rattle.gql_multipart.specs.declared.place.Place.TheVariants.{Line, Name, Value, FieldFeed, LastFeed}
 use Rattle.gql_multipart.specs.declared.place.Moved.TheVariants.{Go, Whole, Bad}

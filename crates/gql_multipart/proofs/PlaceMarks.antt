@@ -2,7 +2,7 @@
 use Rattle.std.proofs.Common.{◌≡◌, ℕ, suc, ◌+◌, ◌-◌, ◌<◌, ◌≤◌, true, false, ◌==◌, nat_le, if◌then◌else◌, IsTrue, List, [], ◌∷◌, ◌++◌, length, get_or, take, refl, sym, ap, ◌∙◌, subst, arith, append-nil, eqb-true, take_all, leb-true, leb-false}
 use Rattle.std.proofs.lemmas.Bool.{eqb-false}
 use Rattle.std.specs.List.{AllByRecursion as Each}
-use Rattle.gql_tree.specs.Frame.{crlf}
+use Rattle.gql_multipart.specs.Frame.{crlf}
 use Rattle.gql_multipart.specs.declared.place.Place.TheVariants.{Mark, Blanks, LastFeed}
 use Rattle.gql_multipart.specs.declared.place.Moved.TheVariants.{Go, Whole, Bad}
 use Rattle.gql_multipart.specs.Body.{blank_byte}

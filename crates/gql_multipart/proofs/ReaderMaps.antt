@@ -1,6 +1,6 @@
 -- Readers whose results are changed, and whose relations are put in other words.
 use Rattle.std.proofs.Common.{◌≡◌, ℕ, inl, inr, List, ◌++◌, length, Result, Ok, Err, refl, sym, ap, ◌∙◌, subst}
-use Rattle.gql_multipart.specs.declared.reader.FrameKind.{FrameKind}
+use Rattle.gql_multipart.specs.declared.refusal.FrameKind.{FrameKind}
 use Rattle.gql_multipart.specs.declared.read.Stop.{Stop}
 use Rattle.gql_multipart.specs.declared.read.Stop.TheVariants.{More, Ended, Refused}
 use Rattle.gql_multipart.specs.Reading.{◌>>=◌}

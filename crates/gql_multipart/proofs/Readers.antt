@@ -1,7 +1,7 @@
 -- Readers of texts: each reads exactly the whole texts of a relation, asks for more exactly where such
 -- a text goes on, and refuses at the first byte with which none does. Two of them in a row are one.
 use Rattle.std.proofs.Common.{◌≡◌, ℕ, suc, ◌+◌, ◌⊎◌, inl, inr, List, ◌∷◌, ◌++◌, length, Result, Ok, Err, refl, sym, ap, ◌∙◌, subst, arith, append_assoc, length-append, drop_at}
-use Rattle.gql_multipart.specs.declared.reader.FrameKind.{FrameKind}
+use Rattle.gql_multipart.specs.declared.refusal.FrameKind.{FrameKind}
 use Rattle.gql_multipart.specs.declared.place.Place.{Place}
 use Rattle.gql_multipart.specs.declared.read.Stop.{Stop}
 use Rattle.gql_multipart.specs.declared.read.Stop.TheVariants.{More, Ended, Refused}

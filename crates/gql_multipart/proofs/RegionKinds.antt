@@ -1,7 +1,7 @@
 -- A byte stands in one region, and a past has one answer.
 use Rattle.std.proofs.Common.{◌≡◌, ◌≢◌, ℕ, zero, suc, ◌+◌, ◌≤◌, ◌⊎◌, inl, inr, Bool, true, false, List, [], ◌∷◌, ◌++◌, length, Option, Some, None, Result, Ok, Err, refl, sym, ap, ◌∙◌, arith, append_assoc, append-nil, length-append}
-use Rattle.gql_multipart.specs.declared.reader.FrameKind.{FrameKind}
-use Rattle.gql_multipart.specs.declared.reader.FrameKind.TheVariants.{BadBoundary, BadPreamble, BadDelimiter, BadHeader, PartTooLong, Truncated}
+use Rattle.gql_multipart.specs.declared.refusal.FrameKind.{FrameKind}
+use Rattle.gql_multipart.specs.declared.refusal.FrameKind.TheVariants.{BadBoundary, BadPreamble, BadDelimiter, BadHeader, PartTooLong, Truncated}
 use Rattle.gql_multipart.specs.declared.place.Place.TheVariants.{Mark, Line}
 use Rattle.gql_multipart.specs.declared.read.Stop.{Stop}
 use Rattle.gql_multipart.specs.declared.read.Stop.TheVariants.{Ended}

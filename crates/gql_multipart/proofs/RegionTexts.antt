@@ -1,6 +1,6 @@
 -- The texts that complete a region from its beginning are those of its definition.
 use Rattle.std.proofs.Common.{◌≡◌, ℕ, zero, suc, ◌+◌, ◌-◌, ◌≤◌, ◌⊎◌, inl, inr, List, [], ◌∷◌, ◌++◌, length, take, refl, sym, ap, ◌∙◌, subst, arith, append_assoc, length-append, take_at}
-use Rattle.gql_tree.specs.Frame.{crlf}
+use Rattle.gql_multipart.specs.Frame.{crlf}
 use Rattle.gql_multipart.specs.declared.place.Place.TheVariants.{Mark, Line}
 use Rattle.gql_multipart.specs.Body.{mark, HoldsNoMark, IsOpening, IsHeader, IsContent}
 use Rattle.gql_multipart.proofs.Lists.{NoCr}

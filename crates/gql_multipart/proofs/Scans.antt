@@ -3,8 +3,8 @@ use Rattle.std.proofs.Common.{◌≡◌, ℕ, zero, suc, ◌+◌, ◌-◌, ◌<�
 use Rattle.std.proofs.lemmas.Bool.{eqb-false}
 use Rattle.std.proofs.lemmas.List.{drop_more}
 use Rattle.std.specs.List.{concat}
-use Rattle.gql_tree.specs.Frame.{crlf}
-use Rattle.gql_multipart.specs.declared.reader.FrameKind.{FrameKind}
+use Rattle.gql_multipart.specs.Frame.{crlf}
+use Rattle.gql_multipart.specs.declared.refusal.FrameKind.{FrameKind}
 use Rattle.gql_multipart.specs.declared.place.Place.{Place}
 use Rattle.gql_multipart.specs.declared.place.Place.TheVariants.{Mark, Blanks, Line, Name, Value, FieldFeed, LastFeed}
 use Rattle.gql_multipart.specs.declared.place.Moved.{Moved}

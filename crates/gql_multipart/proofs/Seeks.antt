@@ -1,8 +1,8 @@
 -- Parts in a row are read as their relation says.
 use Rattle.std.proofs.Common.{◌≡◌, ℕ, ◌+◌, ◌⊎◌, inl, inr, Bool, List, [], ◌++◌, length, Ok, refl, ap, ◌∙◌, arith}
-use Rattle.gql_tree.specs.Frame.{crlf}
-use Rattle.gql_multipart.specs.declared.reader.FrameKind.{FrameKind}
-use Rattle.gql_multipart.specs.declared.reader.FrameKind.TheVariants.{BadPreamble, BadHeader, PartTooLong}
+use Rattle.gql_multipart.specs.Frame.{crlf}
+use Rattle.gql_multipart.specs.declared.refusal.FrameKind.{FrameKind}
+use Rattle.gql_multipart.specs.declared.refusal.FrameKind.TheVariants.{BadPreamble, BadHeader, PartTooLong}
 use Rattle.gql_multipart.specs.declared.place.Place.TheVariants.{Mark, Line}
 use Rattle.gql_multipart.specs.declared.read.Found.{Found}
 use Rattle.gql_multipart.specs.Body.{mark, IsLineEnd, IsHeader, IsContent, IsOpening}

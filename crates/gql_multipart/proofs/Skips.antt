@@ -1,8 +1,8 @@
 -- So many parts, and the part behind them, are read as their relation says.
 use Rattle.std.proofs.Common.{◌≡◌, ◌≢◌, ℕ, zero, suc, ◌+◌, ◌<◌, inl, inr, Bool, true, false, ◌==◌, List, [], ◌∷◌, ◌++◌, length, Ok, refl, sym, ap, ◌∙◌, arith, length-append}
-use Rattle.gql_tree.specs.Frame.{crlf}
-use Rattle.gql_multipart.specs.declared.reader.FrameKind.{FrameKind}
-use Rattle.gql_multipart.specs.declared.reader.FrameKind.TheVariants.{BadPreamble}
+use Rattle.gql_multipart.specs.Frame.{crlf}
+use Rattle.gql_multipart.specs.declared.refusal.FrameKind.{FrameKind}
+use Rattle.gql_multipart.specs.declared.refusal.FrameKind.TheVariants.{BadPreamble}
 use Rattle.gql_multipart.specs.declared.place.Place.TheVariants.{Mark}
 use Rattle.gql_multipart.specs.declared.read.Found.{Found}
 use Rattle.gql_multipart.specs.Body.{dashes, mark, IsOpening, IsPart, Parts}

@@ -4,7 +4,7 @@
 use Rattle.std.specs.Prelude.{◌≡◌, ◌≢◌, ℕ, ◌≤◌, List, [], ◌∷◌, ◌++◌, length, codes, Bool, ◌||◌, ◌==◌, not, IsTrue, ◌⊎◌}
 use Rattle.std.specs.List.{AllByRecursion as Each, concat, list_any}
 use Rattle.std.specs.Char.{is_ascii_alphanumeric}
-use Rattle.gql_tree.specs.Frame.{crlf}
+use Rattle.gql_multipart.specs.Frame.{crlf}
 
 -- ---- boundaries and marks
 

@@ -1,6 +1,6 @@
 -- The piece of one text in a multipart body, and the pieces of a whole body.
 use Rattle.std.specs.Prelude.{ℕ, List, [], ◌∷◌, ◌++◌, flat_map, Bool, true, false, codes, ◌≡◌, ◌≢◌, ◌<◌, ◌≤◌, All, length}
-use Rattle.gql_tree.specs.Frame.{mark, piece, crlf}
+use Rattle.gql_multipart.specs.Frame.{mark, piece, crlf}
 
 -- what stands before the first piece
 abbrev pub opening : Bool → List ℕ

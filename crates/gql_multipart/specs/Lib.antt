@@ -1,3 +1,5 @@
+pub mod Refusals
+pub mod Frame
 pub mod Framed
 pub mod Body
 pub mod Regions

@@ -1,10 +1,10 @@
 -- What a reader was fed and has given, and what it answers.
 use Rattle.std.specs.Prelude.{◌≡◌, ℕ, ◌+◌, ◌-◌, ◌≤◌, ◌<◌, List, [], ◌∷◌, ◌++◌, length, take, Result, Ok, Err}
-use Rattle.gql_tree.specs.Frame.{crlf}
-use Rattle.gql_multipart.specs.declared.reader.FrameKind.{FrameKind}
-use Rattle.gql_multipart.specs.declared.reader.FrameKind.TheVariants.{BadBoundary, Truncated}
-use Rattle.gql_multipart.specs.declared.reader.FrameRefusal.{FrameRefusal}
-use Rattle.gql_multipart.specs.declared.reader.FrameRefusal.TheVariants.{At, NoMemory}
+use Rattle.gql_multipart.specs.Frame.{crlf}
+use Rattle.gql_multipart.specs.declared.refusal.FrameKind.{FrameKind}
+use Rattle.gql_multipart.specs.declared.refusal.FrameKind.TheVariants.{BadBoundary, Truncated}
+use Rattle.gql_multipart.specs.declared.refusal.FrameRefusal.{FrameRefusal}
+use Rattle.gql_multipart.specs.declared.refusal.FrameRefusal.TheVariants.{At, NoMemory}
 use Rattle.gql_multipart.specs.declared.reader.Step.{Step}
 use Rattle.gql_multipart.specs.declared.reader.Step.TheVariants.{Part, More, Ended}
 use Rattle.gql_multipart.specs.Body.{IsBoundary, mark, Body, Complete, IsOpen}

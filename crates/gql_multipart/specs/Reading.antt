@@ -1,7 +1,7 @@
 -- How a body is read, byte by byte: what private clauses say. That this is the relation of Body is proved.
 use Rattle.std.specs.Prelude.{ℕ, suc, zero, ◌+◌, ◌-◌, ◌<◌, ◌≤◌, List, [], ◌∷◌, length, get_or, take, drop, Bool, true, false, ◌&&◌, ◌==◌, nat_le, if◌then◌else◌, Option, Some, None, Result, Ok, Err}
-use Rattle.gql_multipart.specs.declared.reader.FrameKind.{FrameKind}
-use Rattle.gql_multipart.specs.declared.reader.FrameKind.TheVariants.{BadPreamble, BadDelimiter, BadHeader, PartTooLong}
+use Rattle.gql_multipart.specs.declared.refusal.FrameKind.{FrameKind}
+use Rattle.gql_multipart.specs.declared.refusal.FrameKind.TheVariants.{BadPreamble, BadDelimiter, BadHeader, PartTooLong}
 use Rattle.gql_multipart.specs.declared.place.Place.{Place}
 use Rattle.gql_multipart.specs.declared.place.Place.TheVariants.{Mark, Blanks, Line, Name, Value, FieldFeed, LastFeed}
 use Rattle.gql_multipart.specs.declared.place.Moved.{Moved}

@@ -1,7 +1,7 @@
 -- The region of a body in which a byte stands.
 use Rattle.std.specs.Prelude.{◌≡◌, ◌≢◌, ℕ, List, [], ◌∷◌, ◌++◌, ◌⊎◌}
-use Rattle.gql_multipart.specs.declared.reader.FrameKind.{FrameKind}
-use Rattle.gql_multipart.specs.declared.reader.FrameKind.TheVariants.{BadBoundary, BadPreamble, BadDelimiter, BadHeader, PartTooLong, Truncated}
+use Rattle.gql_multipart.specs.declared.refusal.FrameKind.{FrameKind}
+use Rattle.gql_multipart.specs.declared.refusal.FrameKind.TheVariants.{BadBoundary, BadPreamble, BadDelimiter, BadHeader, PartTooLong, Truncated}
 use Rattle.gql_multipart.specs.Body.{dashes, IsOpening, IsLineEnd, IsHeader, IsContent, Begins}
 
 -- what P holds of begins with these bytes and goes on: the byte behind them stands in it

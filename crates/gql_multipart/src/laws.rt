@@ -1,8 +1,8 @@
 //! Laws of the definitions, each the contract of a function that does nothing.
 
-ghost use Rattle.std.specs.Prelude.{◌≡◌, ℕ, List, [], ◌∷◌, ◌++◌, true, false, codes};
+ghost use Rattle.std.specs.Prelude.{◌≡◌, ℕ, length, List, [], ◌∷◌, ◌++◌, true, false, codes};
 ghost use Rattle.std.specs.List.{concat, AllByRecursion as Each};
-ghost use Rattle.gql_tree.specs.Frame as body;
+ghost use Rattle.gql_multipart.specs.Frame as body;
 ghost use Rattle.gql_multipart.specs.Framed.{framed, pieces_of, at_first, so_far, IsFramable, IsLongLine, AreFirst};
 ghost use Rattle.gql_multipart.specs.Body.{IsBoundary, Body, Complete, IsOpen};
 ghost use Rattle.gql_multipart.specs.Past.{Past, Said, IsAnswer};
@@ -50,4 +50,12 @@ pub fn frames_of_long_lines_are_shut()
     ensures whole { (ts : List (List ℕ)) (t : List ℕ) → Each IsFramable ts → IsLongLine t → IsOpen (codes "-") (body.frame (ts ++ t ∷ [])) → ⊥ }
     ensures so_far_parts { (ts : List (List ℕ)) (t front back : List ℕ) (contents : List (List ℕ)) → Each IsFramable ts → IsLongLine t → front ++ back ≡ so_far (ts ++ t ∷ []) → Complete (codes "-") front contents → AreFirst contents ts }
     ensures parts { (ts : List (List ℕ)) (t front back : List ℕ) (contents : List (List ℕ)) → Each IsFramable ts → IsLongLine t → front ++ back ≡ body.frame (ts ++ t ∷ []) → Complete (codes "-") front contents → AreFirst contents ts }
+{}
+
+/// How long the bodies of some texts are.
+pub fn body_lengths()
+    ensures one_piece { length (body.frame (codes "{\"data\":{\"hero\":{\"id\":\"1\"}}}" ∷ [])) ≡ 91 }
+    ensures two_pieces { length (body.frame (
+        codes "{\"data\":{\"hero\":{\"id\":\"1\"}},\"hasNext\":true,\"pending\":[{\"id\":\"0\",\"label\":\"D\",\"path\":[\"hero\"]}]}"
+        ∷ codes "{\"completed\":[{\"id\":\"0\"}],\"hasNext\":false,\"incremental\":[{\"data\":{\"name\":\"Luke\"},\"id\":\"0\"}]}" ∷ [])) ≡ 305 }
 {}

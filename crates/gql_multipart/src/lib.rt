@@ -4,8 +4,8 @@
 //! bytes to send for one text, for the boundary `-`: a first piece begins the body with a mark, each
 //! piece ends with the mark of the next part, and in a last piece that mark closes the body. So a
 //! reader that waits for whole marks sees each text at once. Its contract: the bytes are `framed` of
-//! specs/Framed.antt. The pieces of a list of texts, one after another, are the body that `gql_tree`
-//! defines as `frame`: the contract of `pieces_make_a_body`.
+//! specs/Framed.antt. The pieces of a list of texts, one after another, are the body, `frame`
+//! of specs/Frame.antt: the contract of `pieces_make_a_body`.
 //!
 //! `Reader` takes a body of any boundary in pieces of any length, and gives each part once its next
 //! mark is whole. What a body is stands in specs/Body.antt, a relation between a boundary, bytes and
@@ -21,12 +21,14 @@ mod part;
 mod place;
 mod read;
 mod reader;
+mod refusal;
 #[cfg(test)]
 mod tests;
 
 pub use laws::{
-    a_past_has_one_answer, bodies_are_read_in_one_way, frames_are_read_back,
+    a_past_has_one_answer, bodies_are_read_in_one_way, body_lengths, frames_are_read_back,
     frames_of_long_lines_are_shut, fronts_of_frames_are_open, pieces_make_a_body,
 };
 pub use part::frame;
-pub use reader::{FrameKind, FrameRefusal, Reader, Step};
+pub use reader::{Reader, Step};
+pub use refusal::{FrameKind, FrameRefusal};

@@ -4,7 +4,7 @@ ghost use Rattle.std.specs.Prelude.{◌≡◌, ◌+◌, ◌-◌, ◌<◌, ◌≤
 ghost use Rattle.gql_multipart.specs.Reading.{IsAlive, region, closing, mark_end, part_end, skip, seek, content_of};
 
 use crate::place::{Moved, Place, step};
-use crate::reader::FrameKind;
+use crate::refusal::FrameKind;
 
 /// At most so many bytes stand in a preamble, its CRLF counted, and in the header lines of a part.
 const PREAMBLE: usize = 16_384;

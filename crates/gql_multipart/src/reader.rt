@@ -3,7 +3,7 @@
 ghost use Rattle.std.specs.Prelude.{◌≡◌, ◌++◌, ◌<◌, length, ⊤, IfOk, IfErr, OnOk, OnErr};
 ghost use mathlib.Core.Option.{none};
 ghost use Rattle.std.specs.Borrow.{sem, follows_so};
-ghost use Rattle.gql_tree.specs.Frame.{crlf};
+ghost use Rattle.gql_multipart.specs.Frame.{crlf};
 ghost use Rattle.gql_multipart.specs.Body as body;
 ghost use Rattle.gql_multipart.specs.contracts.reader.Reader.{the_row};
 ghost use Rattle.gql_multipart.specs.Reading.{stop_says, has_ended};
@@ -11,35 +11,10 @@ ghost use Rattle.gql_multipart.specs.Past.{Past, Kept, Stands, begun, fed, after
 
 use crate::bytes::is_boundary;
 use crate::read::{Found, Stop, content, seek};
+use crate::refusal::{FrameKind, FrameRefusal};
 use gql_tree::NoMemory;
 use std::alloc::{AllocError, Global};
 use std::marker::Model;
-
-/// What is wrong with a body, by the region in which its first wrong byte stands.
-#[derive(Clone, Copy, Debug, PartialEq, Eq)]
-pub enum FrameKind {
-    /// The boundary has no or more than 70 characters, a character that it may not have, or a space
-    /// at its end.
-    BadBoundary,
-    /// The preamble has more than 16,384 bytes.
-    BadPreamble,
-    /// Behind a mark stands neither CRLF, with at most 64 spaces and tabs before it, nor `--`.
-    BadDelimiter,
-    /// A header line is none, begins with a mark, or there are more than 16,384 bytes of them.
-    BadHeader,
-    /// A content has more than 67,108,864 bytes.
-    PartTooLong,
-    /// The input has ended inside a body.
-    Truncated,
-}
-
-/// Why a body isn't read on.
-#[derive(Clone, Copy, Debug, PartialEq, Eq)]
-pub enum FrameRefusal {
-    /// `byte` is the least number of bytes that begin no body: the wrong byte, counted from 1.
-    At { kind: FrameKind, byte: u64 },
-    NoMemory,
-}
 
 /// What a reader answers.
 #[derive(Debug, Drop)]
@@ -69,16 +44,6 @@ impl Model for Reader {
     ghost view = { λ r. record { mark = r.mark.items; bytes = r.bytes.items; given = r.given } };
 
     ghost invariant = { λ r. 2 < length r.mark.items };
-}
-
-impl From<NoMemory> for FrameRefusal {
-    ghost use Rattle.gql_multipart.specs.declared.reader.FrameRefusal.TheVariants as refusal;
-
-    ghost from_gives = { λ _ e. e ≡ refusal.NoMemory };
-
-    fn from(_: NoMemory) -> Self {
-        FrameRefusal::NoMemory
-    }
 }
 
 impl Reader {

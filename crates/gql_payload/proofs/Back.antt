@@ -27,8 +27,8 @@ use Rattle.gql_tree.specs.declared.delivery.Payload.{Payload}
 use Rattle.gql_tree.specs.Flat.{Layer}
 use Rattle.gql_tree.specs.FromJson.{value_of}
 use Rattle.gql_tree.specs.Json.{data_step, data_of}
-use Rattle.gql_tree.specs.PayloadText as text
-use Rattle.gql_tree.specs.PayloadText.{members, array, unless_empty, if_some, number, key_data, path_data, fault_data, pending_data, fields_data, items_data, entry_data, completed_data, payload_data, payload_text}
+use Rattle.gql_payload.specs.PayloadText as text
+use Rattle.gql_payload.specs.PayloadText.{members, array, unless_empty, if_some, number, key_data, path_data, fault_data, pending_data, fields_data, items_data, entry_data, completed_data, payload_data, payload_text}
 use Rattle.gql_tree.specs.Same.{SameItems, SameMaybe}
 use Rattle.gql_tree.specs.Sound.{is_object, is_object_or_null, IsLocated, IsOfFields, IsSoundEntry, IsSound, SameContent, SameEntries, SamePayload}
 use Rattle.gql_tree.proofs.Marks.{same-value_of}

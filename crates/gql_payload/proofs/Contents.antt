@@ -9,7 +9,7 @@ use Rattle.gql_tree.specs.declared.delivery.Entry.{Entry}
 use Rattle.gql_tree.specs.declared.delivery.Completed.{Completed}
 use Rattle.gql_tree.specs.declared.delivery.Payload.{Payload}
 use Rattle.gql_tree.specs.Json.{data_of}
-use Rattle.gql_tree.specs.PayloadText.{unless_empty, if_some, key_data, path_data, locations, fault_data, pending_data, fields_data, items_data, entry_data, completed_data}
+use Rattle.gql_payload.specs.PayloadText.{unless_empty, if_some, key_data, path_data, locations, fault_data, pending_data, fields_data, items_data, entry_data, completed_data}
 
 abbrev pub Part : Type 0
 Part = List ℕ × Option Data

@@ -1,3 +1,4 @@
+mod Texts
 pub mod Contents
 pub mod Members
 pub mod Plain

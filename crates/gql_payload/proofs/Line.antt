@@ -10,7 +10,7 @@ use Rattle.json.specs.Print.{escape_letter, escape_byte, escape, quoted}
 use Rattle.serde_json.specs.Data.{Num, unsigned, negative, float, Data, null, boolean, number, string, array, object, Items, no_items, item, Members, no_members, member}
 use Rattle.serde_json.specs.Written.{number_text, comma_if, compact_text, items_text, members_text}
 use Rattle.gql_tree.specs.declared.delivery.Payload.{Payload}
-use Rattle.gql_tree.specs.PayloadText.{payload_data, payload_text}
+use Rattle.gql_payload.specs.PayloadText.{payload_data, payload_text}
 use Rattle.gql_payload.specs.OneLine.{IsOneLine}
 
 -- each byte is a space or above

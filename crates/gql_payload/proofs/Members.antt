@@ -3,7 +3,7 @@ use Rattle.std.proofs.Common.{◌≡◌, ℕ, List, [], ◌∷◌, Option, Some,
 use Rattle.std.specs.Cmp.Lexicographic.{slice_cmp}
 use Rattle.std.specs.Ordering.{match_ordering}
 use Rattle.serde_json.specs.Data.{Data, Members, no_members, member, put}
-use Rattle.gql_tree.specs.PayloadText.{members}
+use Rattle.gql_payload.specs.PayloadText.{members}
 use Rattle.gql_payload.specs.Members.{put_some}
 use Rattle.gql_payload.proofs.Contents.{Part}
 

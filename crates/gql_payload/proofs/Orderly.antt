@@ -24,7 +24,7 @@ use Rattle.gql_tree.specs.declared.delivery.Completed.{Completed}
 use Rattle.gql_tree.specs.declared.delivery.Payload.{Payload}
 use Rattle.gql_tree.specs.Names.{apart}
 use Rattle.gql_tree.specs.Json.{put_all, data_step, data_of}
-use Rattle.gql_tree.specs.PayloadText.{members, unless_empty, if_some, key_data, path_data, location, fault_data, pending_data, fields_data, items_data, entry_data, completed_data, payload_data}
+use Rattle.gql_payload.specs.PayloadText.{members, unless_empty, if_some, key_data, path_data, location, fault_data, pending_data, fields_data, items_data, entry_data, completed_data, payload_data}
 use Rattle.gql_tree.specs.Typed.{fits, all_items, all_members, typed_step, is_typed}
 use Rattle.gql_tree.proofs.Json.{named_map}
 use Rattle.gql_tree.proofs.Marks.{left_of, right_of}

@@ -15,7 +15,7 @@ use Rattle.gql_tree.specs.declared.delivery.Content.TheVariants.{Fields, Items}
 use Rattle.gql_tree.specs.declared.delivery.Completed.{Completed}
 use Rattle.gql_tree.specs.declared.delivery.Payload.{Payload}
 use Rattle.gql_tree.specs.Json.{data_of}
-use Rattle.gql_tree.specs.PayloadText.{members, unless_empty, if_some, key_data, path_data, location, locations, fault_data, pending_data, fields_data, items_data, entry_data, completed_data, payload_data}
+use Rattle.gql_payload.specs.PayloadText.{members, unless_empty, if_some, key_data, path_data, location, locations, fault_data, pending_data, fields_data, items_data, entry_data, completed_data, payload_data}
 use Rattle.gql_tree.proofs.Json.{no_float}
 use Rattle.gql_payload.proofs.Contents.{Part, fault_parts, pending_parts, entry_parts, completed_parts, payload_parts}
 

@@ -7,7 +7,7 @@ use Rattle.gql_tree.specs.declared.value.Value.{Value}
 use Rattle.gql_tree.specs.declared.delivery.Fault.{Fault}
 use Rattle.gql_tree.specs.declared.delivery.Failure.{Failure}
 use Rattle.gql_tree.specs.Json.{data_of}
-use Rattle.gql_tree.specs.PayloadText.{array, if_some, path_data, fault_data}
+use Rattle.gql_payload.specs.PayloadText.{array, if_some, path_data, fault_data}
 use Rattle.gql_tree.proofs.Json.{no_float}
 use Rattle.gql_payload.specs.ReportText.{failure_data, report_data}
 use Rattle.gql_payload.proofs.Contents.{Part}

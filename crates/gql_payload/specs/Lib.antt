@@ -1,3 +1,6 @@
+pub mod Refusals
+pub mod PayloadText
+pub mod Samples
 pub mod Members
 pub mod OneLine
 pub mod Reading

@@ -8,7 +8,7 @@ use Rattle.gql_tree.specs.declared.value.Value.{Value}
 use Rattle.gql_tree.specs.declared.delivery.Fault.{Fault}
 use Rattle.gql_tree.specs.declared.delivery.Failure.{Failure}
 use Rattle.gql_tree.specs.Json.{data_of}
-use Rattle.gql_tree.specs.PayloadText.{object, array, if_some, path_data, fault_data}
+use Rattle.gql_payload.specs.PayloadText.{object, array, if_some, path_data, fault_data}
 
 -- what was announced and failed, its label left out where it has none
 abbrev pub failure_data : Failure → Data

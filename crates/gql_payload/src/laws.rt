@@ -1,10 +1,11 @@
 //! Laws of the definitions, each the contract of a function that does nothing.
 
-ghost use Rattle.std.specs.Prelude.{◌≡◌, ◌≤◌, not, is_some, IsUtf8};
+ghost use Rattle.std.specs.Prelude.{◌≡◌, ◌≤◌, not, is_some, codes, IsUtf8};
 ghost use Rattle.serde_json.specs.Data.{Data, depth};
 ghost use Rattle.gql_tree.specs.declared.delivery.Payload.{Payload};
-ghost use Rattle.gql_tree.specs.PayloadText.{payload_data, payload_text};
+ghost use Rattle.gql_payload.specs.PayloadText.{payload_data, payload_text};
 ghost use Rattle.gql_tree.specs.Sound.{IsSound, SamePayload};
+ghost use Rattle.gql_payload.specs.Samples.{announced, delivered, failed, continued};
 ghost use Rattle.gql_payload.specs.OneLine.{IsOneLine};
 ghost use Rattle.gql_payload.specs.Reading.{payload as payload_of, wrong_member, Decodes};
 ghost use Rattle.gql_tree.specs.Typed.{IsTypedPayload};
@@ -29,4 +30,12 @@ pub fn payload_text_is_read_back(payload: &Payload)
 /// is determined.
 pub fn a_payload_has_no_wrong_member()
     ensures { (d : Data) → is_some (payload_of d) ≡ not (is_some (wrong_member d)) }
+{}
+
+/// The texts of some payloads, as they were written by hand.
+pub fn payload_texts()
+    ensures announced { payload_text announced ≡ codes "{\"data\":{\"hero\":{\"id\":\"1\"}},\"hasNext\":true,\"pending\":[{\"id\":\"0\",\"label\":\"D\",\"path\":[\"hero\"]}]}" }
+    ensures delivered { payload_text delivered ≡ codes "{\"completed\":[{\"id\":\"0\"}],\"hasNext\":false,\"incremental\":[{\"data\":{\"name\":\"Luke\"},\"id\":\"0\"}]}" }
+    ensures failed { payload_text failed ≡ codes "{\"data\":{\"hero\":null},\"errors\":[{\"locations\":[{\"column\":13,\"line\":1}],\"message\":\"bang\",\"path\":[\"hero\",\"boom\"]}]}" }
+    ensures continued { payload_text continued ≡ codes "{\"hasNext\":true,\"incremental\":[{\"data\":{\"name\":\"Luke\"},\"id\":\"0\",\"subPath\":[\"hero\"]},{\"id\":\"1\",\"items\":[]}]}" }
 {}

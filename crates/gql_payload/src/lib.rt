@@ -5,7 +5,7 @@
 //! one, from any server that keeps the format. It is the layer between the payloads that a delivery
 //! makes, or a client puts together, and the frames that carry them.
 //!
-//! Their contracts: the bytes are `payload_text` of the payload, a definition of `gql_tree`; what is
+//! Their contracts: the bytes are `payload_text` of the payload (specs/PayloadText.antt); what is
 //! read is the `payload` of specs/Reading.antt, one definition for each object; and what was written
 //! is read as the same payload, up to the order of members.
 #![tactic(auto)]
@@ -16,6 +16,7 @@ mod laws;
 mod objects;
 mod parts;
 mod read;
+mod refusal;
 mod report;
 #[cfg(test)]
 mod tests;
@@ -23,7 +24,9 @@ mod text;
 
 pub use laws::{
     a_payload_has_no_wrong_member, payload_text_is_one_line, payload_text_is_read_back,
+    payload_texts,
 };
-pub use read::{PayloadRefusal, decode};
+pub use read::decode;
+pub use refusal::PayloadRefusal;
 pub use report::encode_report;
 pub use text::encode;

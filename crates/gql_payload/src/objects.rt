@@ -5,7 +5,7 @@ ghost use Rattle.std.specs.Prelude.{◌≡◌, ℕ, Some, IfOk, OnOk, option_map
 ghost use Rattle.serde_json.specs.Data.{boolean, string};
 ghost use Rattle.serde_json.specs.View.{view};
 ghost use Rattle.gql_tree.specs.Json.{data_of};
-ghost use Rattle.gql_tree.specs.PayloadText.{key_data, path_data, location, locations, fault_data, pending_data, fields_data, items_data, entry_data, completed_data, payload_data};
+ghost use Rattle.gql_payload.specs.PayloadText.{key_data, path_data, location, locations, fault_data, pending_data, fields_data, items_data, entry_data, completed_data, payload_data};
 ghost use Rattle.gql_tree.specs.Typed.{IsTypedValue, IsTypedKey, IsTypedPath, IsTypedFault, IsTypedPending, HasTypedFields, HasTypedItems, IsTypedEntry, IsTypedCompleted, IsTypedPayload};
 
 use crate::parts::{ToSerde, array, if_some, put_some, unless_empty};

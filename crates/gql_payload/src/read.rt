@@ -8,32 +8,14 @@ ghost use Rattle.serde_json.specs.View.{view};
 ghost use Rattle.gql_payload.specs.Reading.{payload, wrong_member, IsJson, IsJsonObject, Decodes};
 ghost use Rattle.gql_payload.specs.WrongAt.{WrongAt};
 ghost use Rattle.gql_payload.specs.declared.from_serde.Misfit.TheVariants as misfit;
-ghost use Rattle.gql_payload.specs.declared.read.PayloadRefusal.TheVariants.{NotJson, NotAnObject, Wrong, NoMemory};
+ghost use Rattle.gql_payload.specs.declared.refusal.PayloadRefusal.TheVariants.{NotJson, NotAnObject, Wrong, NoMemory};
 
 use crate::from_objects::initial;
 use crate::from_serde::{Misfit, optional, optional_list};
+use crate::refusal::PayloadRefusal;
 use gql_tree::{NoMemory, Payload, Text};
 use serde_json::Value;
 use std::alloc::Global;
-
-/// Why bytes are no payload.
-#[derive(Debug, Drop)]
-pub enum PayloadRefusal {
-    /// They are no JSON in UTF-8, or nest deeper than 127.
-    NotJson,
-    NotAnObject,
-    /// The first wrong member of the payload in byte order of names.
-    Wrong { member: Text },
-    NoMemory,
-}
-
-impl From<NoMemory> for PayloadRefusal {
-    ghost from_gives = { λ _ e. e ≡ NoMemory };
-
-    fn from(_: NoMemory) -> Self {
-        PayloadRefusal::NoMemory
-    }
-}
 
 /// The payload that the bytes are.
 ///

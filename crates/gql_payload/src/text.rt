@@ -3,7 +3,7 @@
 ghost use Rattle.std.specs.Prelude.{◌≡◌, ◌≤◌, IfOk};
 ghost use Rattle.serde_json.specs.Data.{depth};
 ghost use Rattle.gql_tree.specs.declared.delivery.Payload.{Payload};
-ghost use Rattle.gql_tree.specs.PayloadText.{payload_data, payload_text};
+ghost use Rattle.gql_payload.specs.PayloadText.{payload_data, payload_text};
 ghost use Rattle.gql_tree.specs.Sound.{IsSound, SamePayload};
 ghost use Rattle.gql_payload.specs.Reading.{Decodes};
 

@@ -7,8 +7,8 @@ use Rattle.std.proofs.lemmas.Bool.Decides.{nat_tests}
 use Rattle.std.proofs.lemmas.List.Concat.{flat_map-append}
 use Rattle.std.proofs.lemmas.List.Elements.{All-weaker}
 use Rattle.gql_tree.specs.declared.Payload.{Payload}
-use Rattle.gql_tree.specs.PayloadText.{payload_text}
-use Rattle.gql_tree.specs.Frame.{crlf, mark, piece, frame}
+use Rattle.gql_payload.specs.PayloadText.{payload_text}
+use Rattle.gql_multipart.specs.Frame.{crlf, mark, piece, frame}
 use Rattle.gql_payload.proofs.Line.{IsOneLine-payload_text}
 use Rattle.gql_multipart.specs.Body.{IsOpen, Body, dashes}
 use Rattle.gql_multipart.specs.Framed.{closing, so_far, IsLine, IsFramable}

@@ -1,10 +1,10 @@
 -- What a client takes, part by part.
 use Rattle.std.proofs.Common.{◌≡◌, ◌≢◌, refl, sym, ap, ◌∙◌, subst, inl, inr, arith, append_assoc, append-nil, length-append, Bor, ℕ, ◌+◌, List, [], ◌∷◌, ◌++◌, length, Result, Ok, Err, IsOk, IsErr, IfOk, Bool, true, false, not, None, Some}
 use Rattle.std.specs.Prelude.{codes}
-use Rattle.gql_tree.specs.Frame.{crlf}
+use Rattle.gql_multipart.specs.Frame.{crlf}
 use Rattle.gql_multipart.specs.Body.{IsBoundary, dashes, mark, IsPart, Body, Complete, IsOpen}
-use Rattle.gql_multipart.specs.declared.reader.FrameRefusal.{FrameRefusal}
-use Rattle.gql_multipart.specs.declared.reader.FrameRefusal.TheVariants.{At, NoMemory as OutOfMemory}
+use Rattle.gql_multipart.specs.declared.refusal.FrameRefusal.{FrameRefusal}
+use Rattle.gql_multipart.specs.declared.refusal.FrameRefusal.TheVariants.{At, NoMemory as OutOfMemory}
 use Rattle.gql_multipart.specs.declared.reader.Step.{Step}
 use Rattle.gql_multipart.specs.declared.reader.Step.TheVariants.{Part}
 use Rattle.gql_multipart.specs.Past.{Past, Stands as ReaderStands, begun, fed, IsEnd, after, said, gives, more, ended, IsAnswer}

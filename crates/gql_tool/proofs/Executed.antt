@@ -8,8 +8,8 @@ use Rattle.gql_tree.specs.declared.delivery.Payload.{Payload}
 use Rattle.gql_tree.specs.Forest.{Forest}
 use Rattle.gql_tree.specs.FirstPayloads.{first_payloads}
 use Rattle.gql_tree.specs.Sound.{IsSound}
-use Rattle.gql_tree.specs.PayloadText.{payload_data, payload_text}
-use Rattle.gql_tree.specs.Frame.{frame}
+use Rattle.gql_payload.specs.PayloadText.{payload_data, payload_text}
+use Rattle.gql_multipart.specs.Frame.{frame}
 use Rattle.gql_multipart.specs.Body.{IsOpen}
 use Rattle.gql_multipart.specs.Framed.{AreFirst, IsLine}
 use Rattle.gql_multipart.proofs.Frames.{frame_is_body}

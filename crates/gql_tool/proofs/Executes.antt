@@ -11,8 +11,8 @@ use Rattle.gql_io.proofs.Told.{Prefix-after, Prefix-within}
 use Rattle.gql_tree.specs.declared.Payload.{Payload}
 use Rattle.gql_tree.specs.Forest.{Forest, region, branches}
 use Rattle.gql_tree.specs.FirstPayloads.{first_payload, first_payloads, later_payloads, group_regions}
-use Rattle.gql_tree.specs.PayloadText.{payload_text}
-use Rattle.gql_tree.specs.Frame.{frame}
+use Rattle.gql_payload.specs.PayloadText.{payload_text}
+use Rattle.gql_multipart.specs.Frame.{frame}
 use Rattle.gql_payload.specs.ReportText.{report_text}
 use Rattle.gql_merge.specs.Lone.{IsLone}
 use Rattle.gql_merge.specs.Merging.{HasMerged}

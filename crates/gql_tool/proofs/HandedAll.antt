@@ -6,8 +6,8 @@ use Rattle.std.proofs.KnownBytes.{Appends-trans}
 use Rattle.gql_io.specs.Told.{AppendsPrefix}
 use Rattle.gql_io.proofs.Told.{Prefix-after}
 use Rattle.gql_tree.specs.declared.Payload.{Payload}
-use Rattle.gql_tree.specs.PayloadText.{payload_text}
-use Rattle.gql_tree.specs.Frame.{frame, mark, piece}
+use Rattle.gql_payload.specs.PayloadText.{payload_text}
+use Rattle.gql_multipart.specs.Frame.{frame, mark, piece}
 use Rattle.gql_multipart.specs.Framed.{framed, so_far}
 use Rattle.gql_tool.specs.declared.status.Status.{Status}
 use Rattle.gql_tool.specs.declared.status.Status.TheVariants.{WriteFault, NoMemory, StreamRefused}

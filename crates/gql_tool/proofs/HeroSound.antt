@@ -23,7 +23,7 @@ use Rattle.gql_tree.specs.declared.Content.TheVariants.{Fields}
 use Rattle.gql_tree.specs.declared.Completed.{Completed}
 use Rattle.gql_tree.specs.declared.Payload.{Payload}
 use Rattle.gql_tree.specs.Json.{put_all, data_of}
-use Rattle.gql_tree.specs.PayloadText.{members, object, unless_empty, if_some, key_data, path_data, location, locations, fault_data, pending_data, entry_data, completed_data, payload_data}
+use Rattle.gql_payload.specs.PayloadText.{members, object, unless_empty, if_some, key_data, path_data, location, locations, fault_data, pending_data, entry_data, completed_data, payload_data}
 use Rattle.gql_tree.specs.Sound.{IsSound, IsLocated, is_object, is_object_or_null}
 use Rattle.gql_tree.specs.FirstPayloads.{first_payloads}
 use Rattle.gql_tree.proofs.Json.{data_Null, data_Int, data_Text, data_Object}

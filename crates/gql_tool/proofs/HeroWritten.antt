@@ -21,7 +21,7 @@ use Rattle.gql_tree.specs.declared.Payload.{Payload}
 use Rattle.gql_tree.specs.Json.{put_all, data_of}
 use Rattle.gql_tree.specs.Names.{apart}
 use Rattle.gql_tree.specs.Typed.{all_members, is_typed}
-use Rattle.gql_tree.specs.PayloadText.{members, unless_empty, if_some, key_data, path_data, location, locations, fault_data, pending_data, entry_data, completed_data, payload_data, payload_text}
+use Rattle.gql_payload.specs.PayloadText.{members, unless_empty, if_some, key_data, path_data, location, locations, fault_data, pending_data, entry_data, completed_data, payload_data, payload_text}
 use Rattle.gql_tree.specs.FirstPayloads.{first_payloads}
 use Rattle.gql_tree.proofs.Json.{data_Null, data_Int, data_Text, data_Object}
 use Rattle.gql_tree.proofs.Typed.{typed_Null, typed_Int, typed_Text, typed_Object, and_true}

@@ -7,8 +7,8 @@ use Rattle.serde_json.specs.Find.{as_object}
 use Rattle.serde_json.specs.Read.{read}
 use Rattle.gql_tree.specs.declared.delivery.Payload.{Payload}
 use Rattle.gql_tree.specs.Sound.{SamePayload}
-use Rattle.gql_payload.specs.declared.read.PayloadRefusal.{PayloadRefusal}
-use Rattle.gql_payload.specs.declared.read.PayloadRefusal.TheVariants as payload_refusal
+use Rattle.gql_payload.specs.declared.refusal.PayloadRefusal.{PayloadRefusal}
+use Rattle.gql_payload.specs.declared.refusal.PayloadRefusal.TheVariants as payload_refusal
 use Rattle.gql_payload.specs.Reading.{IsJson, IsJsonObject, wrong_member, Decodes}
 use Rattle.gql_multipart.specs.Body.{IsBoundary, IsOpen}
 use Rattle.gql_multipart.specs.Regions.{StandsIn}

@@ -3,10 +3,10 @@ use Rattle.std.proofs.Common.{◌≡◌, ◌≢◌, refl, sym, ap, ◌∙◌, su
 use Rattle.std.proofs.lemmas.List.{take-append-drop, take-take, length-take}
 use Rattle.std.specs.Prelude.{codes, ◌⊎◌}
 use Rattle.std.specs.Io.KnownBytes.{Consumes, Keeps}
-use Rattle.gql_multipart.specs.declared.reader.FrameKind.{FrameKind}
-use Rattle.gql_multipart.specs.declared.reader.FrameKind.TheVariants.{BadBoundary}
-use Rattle.gql_multipart.specs.declared.reader.FrameRefusal.{FrameRefusal}
-use Rattle.gql_multipart.specs.declared.reader.FrameRefusal.TheVariants.{At}
+use Rattle.gql_multipart.specs.declared.refusal.FrameKind.{FrameKind}
+use Rattle.gql_multipart.specs.declared.refusal.FrameKind.TheVariants.{BadBoundary}
+use Rattle.gql_multipart.specs.declared.refusal.FrameRefusal.{FrameRefusal}
+use Rattle.gql_multipart.specs.declared.refusal.FrameRefusal.TheVariants.{At}
 use Rattle.gql_multipart.specs.Past.{RefusesBoundary}
 use Rattle.gql_multipart.specs.Body.{IsBoundary}
 use Rattle.gql_merge.specs.declared.merger.Merger.{Merger}

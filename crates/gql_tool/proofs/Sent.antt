@@ -4,7 +4,7 @@ use Rattle.std.proofs.Common.{◌≡◌, arith, length, sym, ap, ◌∙◌, ℕ,
 use Rattle.std.specs.Io.KnownBytes.{Appends}
 use Rattle.std.proofs.KnownBytes.{Appends-nil}
 use Rattle.gql_io.specs.Told.{AppendsPrefix}
-use Rattle.gql_tree.specs.Frame.{frame, piece, mark}
+use Rattle.gql_multipart.specs.Frame.{frame, piece, mark}
 use Rattle.gql_multipart.specs.Framed.{framed, closing}
 use Rattle.gql_tool.proofs.HeroFields.{append-nil}
 

@@ -4,7 +4,7 @@ use Rattle.std.specs.List.{AllByRecursion as Each}
 use Rattle.gql_tree.specs.declared.Payload.{Payload}
 use Rattle.gql_tree.specs.Forest.{region, branches}
 use Rattle.gql_tree.specs.FirstPayloads.{first_payload, first_payloads, later_payloads, group_regions}
-use Rattle.gql_tree.specs.PayloadText.{payload_text}
+use Rattle.gql_payload.specs.PayloadText.{payload_text}
 use Rattle.gql_multipart.specs.Body.{IsBoundary, Body}
 use Rattle.gql_multipart.proofs.Frames.{dash_boundary, frame_is_body}
 use Rattle.gql_merge.specs.declared.state.State.{State}

@@ -10,8 +10,8 @@ use Rattle.gql_tree.specs.declared.delivery.Entry.{Entry}
 use Rattle.gql_tree.specs.declared.delivery.Payload.{Payload}
 use Rattle.gql_tree.specs.Same.{SameMaybe, SameItems}
 use Rattle.gql_tree.specs.Sound.{SameContent, SameEntries, SamePayload}
-use Rattle.gql_payload.specs.declared.read.PayloadRefusal.{PayloadRefusal}
-use Rattle.gql_payload.specs.declared.read.PayloadRefusal.TheVariants as payload_refusal
+use Rattle.gql_payload.specs.declared.refusal.PayloadRefusal.{PayloadRefusal}
+use Rattle.gql_payload.specs.declared.refusal.PayloadRefusal.TheVariants as payload_refusal
 use Rattle.gql_payload.specs.Reading.{IsJson, Decodes, payload}
 use Rattle.gql_payload.proofs.Wrong.{payload-wrong_member}
 use Rattle.gql_merge.specs.declared.state.State.{State}

@@ -5,11 +5,11 @@ use Rattle.serde_json.specs.Data.{Data}
 use Rattle.serde_json.specs.Find.{as_object}
 use Rattle.serde_json.specs.Read.{read}
 use Rattle.gql_tree.specs.declared.delivery.Payload.{Payload}
-use Rattle.gql_payload.specs.declared.read.PayloadRefusal.{PayloadRefusal}
-use Rattle.gql_payload.specs.declared.read.PayloadRefusal.TheVariants.{NotJson, NotAnObject, Wrong, NoMemory as OutOfMemory}
+use Rattle.gql_payload.specs.declared.refusal.PayloadRefusal.{PayloadRefusal}
+use Rattle.gql_payload.specs.declared.refusal.PayloadRefusal.TheVariants.{NotJson, NotAnObject, Wrong, NoMemory as OutOfMemory}
 use Rattle.gql_payload.specs.Reading.{IsJson, IsJsonObject, wrong_member, Decodes}
-use Rattle.gql_multipart.specs.declared.reader.FrameKind.{FrameKind}
-use Rattle.gql_multipart.specs.declared.reader.FrameKind.TheVariants.{BadBoundary, BadPreamble, BadDelimiter, BadHeader, PartTooLong, Truncated}
+use Rattle.gql_multipart.specs.declared.refusal.FrameKind.{FrameKind}
+use Rattle.gql_multipart.specs.declared.refusal.FrameKind.TheVariants.{BadBoundary, BadPreamble, BadDelimiter, BadHeader, PartTooLong, Truncated}
 use Rattle.gql_multipart.specs.Body.{Body, Complete, IsOpen}
 use Rattle.gql_multipart.specs.Regions.{StandsIn}
 use Rattle.gql_multipart.specs.Past.{IsLeastShut}

@@ -5,8 +5,8 @@ use Rattle.std.specs.Io.KnownBytes.{Appends, Keeps}
 use Rattle.serde_json.specs.Data.{depth}
 use Rattle.gql_tree.specs.declared.Payload.{Payload}
 use Rattle.gql_tree.specs.Sound.{IsSound, SamePayload}
-use Rattle.gql_tree.specs.PayloadText.{payload_data, payload_text}
-use Rattle.gql_tree.specs.Frame.{frame}
+use Rattle.gql_payload.specs.PayloadText.{payload_data, payload_text}
+use Rattle.gql_multipart.specs.Frame.{frame}
 use Rattle.gql_payload.specs.Reading.{Decodes}
 use Rattle.gql_multipart.specs.Body.{IsOpen}
 use Rattle.gql_multipart.specs.Framed.{so_far}

@@ -1,7 +1,7 @@
 -- A client beside what it heard.
 use Rattle.std.specs.Prelude.{◌≡◌, ℕ, List, [], ◌++◌, length, Option, None, Some}
-use Rattle.gql_multipart.specs.declared.reader.FrameRefusal.{FrameRefusal}
-use Rattle.gql_multipart.specs.declared.reader.FrameRefusal.TheVariants.{At, NoMemory as OutOfMemory}
+use Rattle.gql_multipart.specs.declared.refusal.FrameRefusal.{FrameRefusal}
+use Rattle.gql_multipart.specs.declared.refusal.FrameRefusal.TheVariants.{At, NoMemory as OutOfMemory}
 use Rattle.gql_multipart.specs.Body.{IsOpen}
 use Rattle.gql_multipart.specs.Past.{Past, Stands as ReaderStands}
 use Rattle.gql_merge.specs.Apply.{fresh}

@@ -9,14 +9,14 @@ use Rattle.gql_tree.specs.declared.Payload.{Payload}
 use Rattle.gql_tree.specs.Forest.{Forest}
 use Rattle.gql_tree.specs.FirstPayloads.{first_payloads}
 use Rattle.gql_tree.specs.Merged.{IsMerged}
-use Rattle.gql_tree.specs.PayloadText.{payload_text}
-use Rattle.gql_tree.specs.Frame.{frame}
+use Rattle.gql_payload.specs.PayloadText.{payload_text}
+use Rattle.gql_multipart.specs.Frame.{frame}
 use Rattle.gql_payload.specs.ReportText.{report_text}
 use Rattle.gql_multipart.specs.Framed.{framed, at_first, so_far}
 use Rattle.gql_model.specs.Operations.{forest}
 use Rattle.gql_model.specs.declared.syntax.Document.{Document}
-use Rattle.gql_lex.specs.declared.token.LexRefusal.{LexRefusal}
-use Rattle.gql_lex.specs.declared.token.LexRefusal.TheVariants.{BadCharacter, BadEscape, OpenString, BadNumber, FloatToken}
+use Rattle.gql_lex.specs.declared.refusal.LexRefusal.{LexRefusal}
+use Rattle.gql_lex.specs.declared.refusal.LexRefusal.TheVariants.{BadCharacter, BadEscape, OpenString, BadNumber, FloatToken}
 use Rattle.gql_doc.specs.declared.refusal.ParseRefusal.{ParseRefusal}
 use Rattle.gql_doc.specs.declared.refusal.ParseRefusal.TheVariants as refusal
 use Rattle.gql_doc.specs.Answer.{Answers, most_bytes}

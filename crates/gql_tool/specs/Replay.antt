@@ -1,6 +1,6 @@
 -- What the command `replay` makes of its input.
 use Rattle.std.specs.Prelude.{◌≡◌, ◌≢◌, ◌⊎◌, ℕ, ◌≤◌, List, [], ◌∷◌, ◌++◌, length, Option, None, Some, codes, ⊤}
-use Rattle.gql_multipart.specs.declared.reader.FrameKind.TheVariants.{BadBoundary}
+use Rattle.gql_multipart.specs.declared.refusal.FrameKind.TheVariants.{BadBoundary}
 use Rattle.gql_multipart.specs.Body.{IsBoundary}
 use Rattle.gql_merge.specs.declared.state.State.{State}
 use Rattle.gql_merge.specs.Apply.{fresh}

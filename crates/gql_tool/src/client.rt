@@ -1,7 +1,7 @@
 //! The client's end: the bytes of a body, in any cutting, become one merged response.
 
 ghost use Rattle.std.specs.Prelude.{◌≡◌, ◌≢◌, ◌+◌, ◌-◌, ◌<◌, ◌++◌, ◌∷◌, [], length, true, false, List, ℕ, None, Some, Ok, Err, IfOk, IfErr, OnOk, OnErr, is_ok, option_map, cond, codes};
-ghost use Rattle.gql_payload.specs.declared.read.PayloadRefusal.TheVariants as payload;
+ghost use Rattle.gql_payload.specs.declared.refusal.PayloadRefusal.TheVariants as payload;
 ghost use Rattle.gql_merge.specs.declared.refusal.MergeRefusal.TheVariants as merge;
 ghost use Rattle.gql_multipart.specs.Past.{RefusesBoundary};
 ghost use Rattle.gql_multipart.specs.Body.{IsOpen};

@@ -3,7 +3,7 @@
 ghost use Rattle.std.specs.Prelude.{◌≡◌, ◌⊎◌, ◌<◌, Err, IfOk, IfErr, OnOk, IsErrOf};
 ghost use Rattle.gql_io.specs.Faults.{Counts};
 ghost use Rattle.gql_io.specs.Told.{Puts};
-ghost use Rattle.gql_tree.specs.PayloadText.{payload_text};
+ghost use Rattle.gql_payload.specs.PayloadText.{payload_text};
 ghost use Rattle.gql_multipart.specs.Framed.{framed};
 ghost use Rattle.gql_tool.specs.Handed.{IsWritten, Handed, Hears, StopsIn, CountsOn};
 ghost use Rattle.gql_tool.specs.LocalClient.{cuts_in};

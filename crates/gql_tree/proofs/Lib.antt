@@ -17,4 +17,3 @@ mod Below
 pub mod One
 pub mod Uniting
 pub mod Finite
-mod Texts

@@ -2,6 +2,7 @@
 use Rattle.std.specs.Prelude.{ℕ, List, [], ◌∷◌, Option, Some, None, codes}
 use Rattle.gql_tree.specs.declared.path.Key.{Key}
 use Rattle.gql_tree.specs.declared.path.Key.TheVariants.{Name}
+use Rattle.gql_tree.specs.declared.value.Value.{Value}
 use Rattle.gql_tree.specs.declared.value.Value.TheVariants as v
 use Rattle.gql_tree.specs.declared.delivery.Fault.{Fault}
 use Rattle.gql_tree.specs.declared.delivery.Frag.{Frag}
@@ -12,8 +13,11 @@ use Rattle.gql_tree.specs.declared.delivery.Outcome.{Outcome}
 use Rattle.gql_tree.specs.declared.delivery.Outcome.TheVariants.{Good, Failed}
 use Rattle.gql_tree.specs.declared.delivery.RegionResult.{RegionResult}
 use Rattle.gql_tree.specs.declared.delivery.TaskWork.TheVariants.{Fields, Item}
-use Rattle.gql_tree.specs.Samples.{object}
 use Rattle.gql_tree.specs.Forest.{Forest, grown, none, more}
+
+-- an object of one member
+abbrev pub object : List ℕ → Value → Value
+object name x = v.Object (record { name = name; value = x } ∷ [])
 
 -- ---- deferred fragments at `hero`
 

@@ -1,6 +1,6 @@
 //! Laws of the definitions, each the contract of a function that does nothing.
 
-ghost use Rattle.std.specs.Prelude.{◌≡◌, length, List, [], ◌∷◌, ◌++◌, Some, codes, false, IsTrue, IsSome};
+ghost use Rattle.std.specs.Prelude.{◌≡◌, List, [], ◌∷◌, ◌++◌, Some, codes, false, IsTrue, IsSome};
 ghost use Rattle.gql_tree.specs.declared.delivery.Failure.{Failure};
 ghost use Rattle.gql_tree.specs.declared.delivery.Fault.{Fault};
 ghost use Rattle.gql_tree.specs.declared.path.Key.{Key};
@@ -9,12 +9,9 @@ ghost use Rattle.gql_tree.specs.declared.value.Value.{Value};
 ghost use Rattle.gql_tree.specs.Finite.{IsFinite};
 ghost use Rattle.gql_tree.specs.Flat.{flat};
 ghost use Rattle.gql_tree.specs.Forest.{Forest, region};
-ghost use Rattle.gql_tree.specs.Frame.{frame};
 ghost use Rattle.gql_tree.specs.FromJson.{has_bad_number, value_of};
 ghost use Rattle.gql_tree.specs.Json.{data_of};
 ghost use Rattle.gql_tree.specs.Merged.{IsMerged, delivery, part};
-ghost use Rattle.gql_tree.specs.PayloadText.{payload_text};
-ghost use Rattle.gql_tree.specs.Samples.{announced, delivered, failed, continued};
 ghost use Rattle.gql_tree.specs.Same.{SameFlat};
 ghost use Rattle.gql_tree.specs.Typed.{is_typed, IsTypedValue};
 ghost use Rattle.gql_tree.specs.Union.{IsUnion, Clashes, moved};
@@ -52,16 +49,6 @@ pub fn a_forest_has_one_response()
     ensures { (f : Forest) (v w : Value) (es fs : List Fault) (xs ys : List Failure)
         → IsMerged f v es xs → IsMerged f w fs ys
         → (data_of v ≡ data_of w) × (es ≡ fs) × (xs ≡ ys) }
-{}
-
-/// The texts of some payloads, and the lengths of multipart bodies.
-pub fn payload_texts()
-    ensures announced { payload_text announced ≡ codes "{\"data\":{\"hero\":{\"id\":\"1\"}},\"hasNext\":true,\"pending\":[{\"id\":\"0\",\"label\":\"D\",\"path\":[\"hero\"]}]}" }
-    ensures delivered { payload_text delivered ≡ codes "{\"completed\":[{\"id\":\"0\"}],\"hasNext\":false,\"incremental\":[{\"data\":{\"name\":\"Luke\"},\"id\":\"0\"}]}" }
-    ensures failed { payload_text failed ≡ codes "{\"data\":{\"hero\":null},\"errors\":[{\"locations\":[{\"column\":13,\"line\":1}],\"message\":\"bang\",\"path\":[\"hero\",\"boom\"]}]}" }
-    ensures continued { payload_text continued ≡ codes "{\"hasNext\":true,\"incremental\":[{\"data\":{\"name\":\"Luke\"},\"id\":\"0\",\"subPath\":[\"hero\"]},{\"id\":\"1\",\"items\":[]}]}" }
-    ensures one_piece { length (frame (codes "{\"data\":{\"hero\":{\"id\":\"1\"}}}" ∷ [])) ≡ 91 }
-    ensures two_pieces { length (frame (payload_text announced ∷ payload_text delivered ∷ [])) ≡ 305 }
 {}
 
 /// What is delivered of some forests, and what fails.

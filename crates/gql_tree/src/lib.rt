@@ -30,8 +30,7 @@ pub use fields::{Fields, Named};
 pub use from_json::NumberRefusal;
 pub use graft::GraftRefusal;
 pub use laws::{
-    a_forest_has_one_response, deliveries, flat_is_finite, one_json_is_one_value, payload_texts,
-    unions_exist,
+    a_forest_has_one_response, deliveries, flat_is_finite, one_json_is_one_value, unions_exist,
 };
 pub use listed::Listed;
 pub use memory::NoMemory;

@@ -2,7 +2,7 @@ use Rattle.std.proofs.Common.{ℕ, Vec, Global, List, ◌∙◌, ap, sym, subst,
 use Rattle.std.proofs.lemmas.Str.{IsUtf8-string_bytes}
 use Rattle.serde_json.specs.Written.{has_float, compact_text}
 use Rattle.gql_tree.specs.declared.delivery.Payload.{Payload}
-use Rattle.gql_tree.specs.PayloadText.{payload_text}
+use Rattle.gql_payload.specs.PayloadText.{payload_text}
 use Rattle.gql_tree.specs.Sound.{SamePayload}
 use Rattle.gql_payload.specs.Reading.{Decodes}
 use Rattle.gql_payload.proofs.Plain.{payload_plain}

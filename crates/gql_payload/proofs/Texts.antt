@@ -1,12 +1,11 @@
 -- The texts of the sample payloads.
-use Rattle.std.proofs.Common.{◌≡◌, ℕ, List, [], ◌∷◌, length, refl, arith}
+use Rattle.std.proofs.Common.{◌≡◌, [], ◌∷◌, refl, arith}
 use Rattle.std.specs.Prelude.{codes, decimal}
 use Rattle.std.specs.Fmt.{digits}
 use Rattle.std.proofs.lemmas.Fmt.{decimal_digit}
 use Rattle.json.specs.Print.{escape_byte}
-use Rattle.gql_tree.specs.Frame.{frame}
-use Rattle.gql_tree.specs.PayloadText.{payload_text}
-use Rattle.gql_tree.specs.Samples.{announced, delivered, failed, continued}
+use Rattle.gql_payload.specs.PayloadText.{payload_text}
+use Rattle.gql_payload.specs.Samples.{announced, delivered, failed, continued}
 use Rattle.gql_tree.proofs.Json.{data_Null, data_Text, data_Object}
 
 pub text_announced : payload_text announced ≡ codes "{\"data\":{\"hero\":{\"id\":\"1\"}},\"hasNext\":true,\"pending\":[{\"id\":\"0\",\"label\":\"D\",\"path\":[\"hero\"]}]}"
@@ -28,13 +27,3 @@ text_failed = simp (data_Object, data_Null, decimal_digit 1 (omega arith), decim
 pub text_continued : payload_text continued ≡ codes "{\"hasNext\":true,\"incremental\":[{\"data\":{\"name\":\"Luke\"},\"id\":\"0\",\"subPath\":[\"hero\"]},{\"id\":\"1\",\"items\":[]}]}"
 unfolding escape_byte
 text_continued = simp (data_Object, data_Text) refl
-
-pub length_one_piece : length (frame (codes "{\"data\":{\"hero\":{\"id\":\"1\"}}}" ∷ [])) ≡ 91
-length_one_piece = refl
-
--- a body by its texts
-length_frame : (s t a b : List ℕ) → s ≡ a → t ≡ b → length (frame (s ∷ t ∷ [])) ≡ length (frame (a ∷ b ∷ []))
-length_frame s t a b p q = rw (p, q) refl
-
-pub length_two_pieces : length (frame (payload_text announced ∷ payload_text delivered ∷ [])) ≡ 305
-length_two_pieces = length_frame _ _ _ _ text_announced text_delivered

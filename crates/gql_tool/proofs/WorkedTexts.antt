@@ -5,7 +5,7 @@ use Rattle.std.proofs.lemmas.Fmt.{decimal_digit}
 use Rattle.std.specs.Fmt.{digits}
 use Rattle.std.specs.Prelude.{decimal}
 use Rattle.json.specs.Print.{escape_byte}
-use Rattle.gql_tree.specs.Frame.{frame}
+use Rattle.gql_multipart.specs.Frame.{frame}
 use Rattle.gql_tree.proofs.Json.{data_Null, data_Text, data_Object}
 use Rattle.gql_model.specs.Sample.{plain, one_deferred, bubbling, null_item, failing}
 use Rattle.gql_model.specs.Worked.{texts}

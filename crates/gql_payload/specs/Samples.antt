@@ -2,14 +2,10 @@
 use Rattle.std.specs.Prelude.{ℕ, List, [], ◌∷◌, true, false, Some, None, codes}
 use Rattle.gql_tree.specs.declared.path.Key.TheVariants.{Name}
 use Rattle.gql_tree.specs.declared.path.Path.{Path}
-use Rattle.gql_tree.specs.declared.value.Value.{Value}
 use Rattle.gql_tree.specs.declared.value.Value.TheVariants as Value
 use Rattle.gql_tree.specs.declared.delivery.Content.TheVariants.{Fields, Items}
 use Rattle.gql_tree.specs.declared.delivery.Payload.{Payload}
-
--- an object of one member
-abbrev pub object : List ℕ → Value → Value
-object name x = Value.Object (record { name = name; value = x } ∷ [])
+use Rattle.gql_tree.specs.WorkedForests.{object}
 
 -- a path of one name
 abbrev pub at : List ℕ → Path

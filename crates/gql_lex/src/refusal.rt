@@ -1,0 +1,56 @@
+//! What is no token.
+
+ghost use Rattle.std.specs.Prelude.{◌≡◌};
+ghost use Rattle.gql_lex.specs.Refusals.{lex_name};
+ghost use Rattle.gql_lex.specs.TokenPlaces.{place_of};
+
+use gql_tree::Spot;
+use thiserror::Error;
+
+/// What stands in a text that is no token, and where.
+#[derive(Clone, Copy, Debug, PartialEq, Eq, Error)]
+pub enum LexRefusal {
+    /// A character that begins no token, or that stands nowhere.
+    #[error("a character that begins no token, at {}:{}", .0.line, .0.column)]
+    BadCharacter(Spot),
+    /// A backslash in a quoted string that begins no escape, or an escape of half a surrogate pair.
+    #[error("a bad escape, at {}:{}", .0.line, .0.column)]
+    BadEscape(Spot),
+    /// The first quote of a string that doesn't end.
+    #[error("a string that doesn't end, at {}:{}", .0.line, .0.column)]
+    OpenString(Spot),
+    /// A digit or `-` that begins no number, or a number that runs into what follows it.
+    #[error("a bad number, at {}:{}", .0.line, .0.column)]
+    BadNumber(Spot),
+    /// A number with a fraction or an exponent.
+    #[error("a number with a fraction or an exponent, at {}:{}", .0.line, .0.column)]
+    FloatToken(Spot),
+}
+
+impl LexRefusal {
+    /// The name that a user is shown.
+    pub fn name(self) -> &'static str
+        ensures { result.now ≡ lex_name self }
+    {
+        match self {
+            LexRefusal::BadCharacter(_) => "BadCharacter",
+            LexRefusal::BadEscape(_) => "BadEscape",
+            LexRefusal::OpenString(_) => "OpenString",
+            LexRefusal::BadNumber(_) => "BadNumber",
+            LexRefusal::FloatToken(_) => "FloatToken",
+        }
+    }
+
+    /// Where it stands.
+    pub fn spot(self) -> Spot
+        ensures { result ≡ place_of self }
+    {
+        match self {
+            LexRefusal::BadCharacter(spot) => spot,
+            LexRefusal::BadEscape(spot) => spot,
+            LexRefusal::OpenString(spot) => spot,
+            LexRefusal::BadNumber(spot) => spot,
+            LexRefusal::FloatToken(spot) => spot,
+        }
+    }
+}
