@@ -1,0 +1,4 @@
+//! Tests of the lexer, the parser and the printer, over their public calls alone: documents, refusals and their places,
+//! hostile texts. They show what no contract says: that calls succeed where memory is ample, and worked rows. They stand
+//! apart since a crate with tests is proved a second time with them.
+#![tactic(auto)]
