@@ -2,11 +2,11 @@
 use Rattle.std.proofs.Common.{◌≡◌, refl, sym, ap, ◌∙◌, subst, arith, append_assoc, append-nil, ℕ, ◌+◌, ◌-◌, ◌/◌, ◌<◌, ◌≤◌, min, nat_lt, Bool, true, false, List, [], ◌++◌, length}
 use Rattle.std.proofs.Math.Nat.{add-div_right, div-eq_of_lt}
 use Rattle.std.proofs.lemmas.Bool.Decides.{nat_tests}
-use Rattle.gql_tool.specs.declared.client.Client.{Client}
-use Rattle.gql_tool.specs.Client.{counted}
-use Rattle.gql_tool.specs.Heard.{Stands, heard, IsRefused}
+use Rattle.gql_client.specs.declared.client.Client.{Client}
+use Rattle.gql_client.specs.Client.{counted}
+use Rattle.gql_client.specs.Heard.{Stands, heard, IsRefused}
 use Rattle.gql_tool.specs.LocalClient.{cuts_in}
-use Rattle.gql_tool.specs.Handed.{Hears, StopsIn, CountsOn}
+use Rattle.gql_tool.specs.inner.Handed.{Hears, StopsIn, CountsOn}
 
 -- ---- how many cuts there are
 

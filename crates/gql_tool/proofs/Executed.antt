@@ -21,21 +21,14 @@ use Rattle.gql_merge.specs.Same.{IsTypedState}
 use Rattle.gql_merge.specs.Lone.{IsLone}
 use Rattle.gql_merge.specs.Merging.{SamePayloads, HasMerged}
 use Rattle.gql_merge.proofs.Lone.{lone_served}
-use Rattle.gql_tool.specs.Client.{AreComplete, Follows, Merges, Refuses}
-use Rattle.gql_tool.specs.Handed.{IsWritten}
+use Rattle.gql_client.specs.Client.{AreComplete, Follows, Merges, Refuses}
+use Rattle.gql_tool.specs.inner.Handed.{IsWritten}
+use Rattle.gql_tool.specs.inner.Servable.{IsReadable}
 use Rattle.gql_tool.specs.Local.{Fits, IsMergedLine}
 use Rattle.gql_tool.specs.LocalClient.{dash}
 use Rattle.gql_tool.specs.Replay.{merged_line}
 use Rattle.gql_tool.proofs.Bodies.{payload_lines, all_framable, open_front}
-use Rattle.gql_tool.proofs.Understood.{AllRead, Follows-taken, Follows-refused, split_texts}
-
--- a payload that makes sense and isn't deep
-abbrev pub IsReadable : Payload → Type 0
-IsReadable p = IsSound p × (depth (payload_data p) ≤ 127)
-
-pub all_readable : (ps : List Payload) → Each IsSound ps → Each (λ p. depth (payload_data p) ≤ 127) ps → Each IsReadable ps
-all_readable [] sound shallow = tt
-all_readable (p ∷ ps) sound shallow = ((sound.0, shallow.0), all_readable ps sound.1 shallow.1)
+use Rattle.gql_client.proofs.Understood.{AllRead, Follows-taken, Follows-refused, split_texts}
 
 all_read : (ps : List Payload) → Each IsReadable ps → Each IsWritten ps → AllRead ps (map payload_text ps)
 all_read [] readable written = tt

@@ -9,37 +9,35 @@ use Rattle.std.proofs.KnownBytes.{Appends-trans, Appends-kept}
 use Rattle.gql_io.specs.Told.{AppendsPrefix}
 use Rattle.gql_io.proofs.Told.{Prefix-after, Prefix-within}
 use Rattle.gql_tree.specs.declared.Payload.{Payload}
+use Rattle.gql_tree.specs.declared.Value.{Value}
+use Rattle.gql_tree.specs.declared.Fault.{Fault}
+use Rattle.gql_tree.specs.declared.Failure.{Failure}
+use Rattle.gql_tree.specs.Merged.{IsMerged}
 use Rattle.gql_tree.specs.Forest.{Forest, region, branches}
 use Rattle.gql_tree.specs.FirstPayloads.{first_payload, first_payloads, later_payloads, group_regions}
 use Rattle.gql_payload.specs.PayloadText.{payload_text}
 use Rattle.gql_multipart.specs.Frame.{frame}
 use Rattle.gql_payload.specs.ReportText.{report_text}
-use Rattle.gql_merge.specs.Lone.{IsLone}
 use Rattle.gql_merge.specs.Merging.{HasMerged}
 use Rattle.gql_merge.specs.Same.{IsTypedState}
 use Rattle.gql_tool.specs.declared.status.Status.{Status}
 use Rattle.gql_tool.specs.declared.status.Status.TheVariants.{Done, WriteFault, NoMemory, StreamRefused}
-use Rattle.gql_tool.specs.declared.shape.HeroDocument.{HeroDocument}
-use Rattle.gql_tool.specs.declared.tables.HeroTables.{HeroTables}
-use Rattle.gql_tool.specs.declared.request.Request.TheVariants.{Built}
-use Rattle.gql_tool.specs.declared.client.Client.{Client}
-use Rattle.gql_tool.specs.Client.{counted}
-use Rattle.gql_tool.specs.Heard.{nothing_heard, IsRefused}
+use Rattle.gql_client.specs.declared.client.Client.{Client}
+use Rattle.gql_client.specs.Client.{counted}
+use Rattle.gql_client.specs.Heard.{nothing_heard, IsRefused}
 use Rattle.gql_multipart.specs.Framed.{so_far}
-use Rattle.gql_tool.specs.Hero.{EachOnce, RefStands, IsPlaced, TablesFit}
-use Rattle.gql_tool.specs.Handed.{Goes, HearsFront, Reached, Stopped, HandedAll, PutsLine}
-use Rattle.gql_tool.specs.Local.{part_limit, Fits, regions, texts, body, IsMergedLine, up_to, Answered}
+use Rattle.gql_tool.specs.inner.Handed.{Goes, HearsFront, Reached, Stopped, HandedAll, PutsLine}
+use Rattle.gql_tool.specs.Judged.{Executed}
+use Rattle.gql_tool.specs.inner.Servable.{IsReadable, CanBeServed}
+use Rattle.gql_tool.specs.Local.{part_limit, Fits, texts, body, IsMergedLine, up_to, Answered}
 use Rattle.gql_tool.specs.LocalClient.{dash, IsNew, StandsFor, TookBody, TookFront, RefusedBody, ClientEnds}
-use Rattle.gql_tool.specs.Meets.{Meets, Front, ended}
+use Rattle.gql_tool.specs.Meets.{Meets, Front}
+use Rattle.gql_tool.specs.inner.Steps.{ended}
 use Rattle.gql_tool.specs.Outcome.{Outcome}
 use Rattle.gql_tool.specs.Replay.{merged_line}
 use Rattle.gql_tool.proofs.Bodies.{TooLong as TooLongIn, all_fit_or, payload_lines, so_far_fits, frame_fits, fits_or, each-snoc, each-front, each-join, up_to-frame, up_to-later, up_to-single, snoc, some_first}
-use Rattle.gql_tool.proofs.Executed.{IsReadable, all_readable, merges_all, refuses_none, line_merged}
-use Rattle.gql_tool.proofs.HeroForests.{hero_is_lone}
+use Rattle.gql_tool.proofs.Executed.{merges_all, refuses_none, line_merged}
 use Rattle.gql_tool.proofs.Sent.{Prefix-all}
-use Rattle.gql_tool.proofs.HeroSound.{hero_payloads_make_sense, hero_payloads_are_shallow}
-use Rattle.gql_tool.proofs.HeroResponses.{hero_has_a_response}
-use Rattle.gql_merge.proofs.Responses.{HasResponse}
 
 -- a limit that is passed by no text that fits
 apart : (text : List ℕ) → Fits text ⊎ (part_limit < length text) → (Fits text → ⊥) → part_limit < length text
@@ -47,56 +45,50 @@ apart text (inl fits) none = absurd (none fits)
 apart text (inr long) none = long
 
 -- the line of a response
-line_of : (f : Forest) → HasResponse f → (line : List ℕ) × IsMergedLine f line
-line_of f (value, errors, failures, merged) = (codes "merged " ++ (report_text value errors failures ++ 10 ∷ []), record { value = value; errors = errors; failures = failures; merged = merged; is_line = refl })
+line_of : (f : Forest) (value : Value) (errors : List Fault) (failures : List Failure) → IsMerged f value errors failures → (line : List ℕ) × IsMergedLine f line
+line_of f value errors failures merged = (codes "merged " ++ (report_text value errors failures ++ 10 ∷ []), record { value = value; errors = errors; failures = failures; merged = merged; is_line = refl })
 
-module _ (t : HeroTables) (d : HeroDocument) (once : EachOnce d) (stands : RefStands t) (placed : IsPlaced d) (tables_fit : TablesFit t) where
+module _ (f : Forest) (served : CanBeServed f) where
   abbrev payloads : List Payload
-  payloads = first_payloads (regions t d)
+  payloads = first_payloads f
 
   abbrev first : Payload
-  first = first_payload (region (regions t d))
+  first = first_payload (region f)
 
   abbrev later : List Payload
-  later = later_payloads 0 (group_regions (branches (regions t d)))
+  later = later_payloads 0 (group_regions (branches f))
 
-  abbrev Asked : HeroTables → HeroDocument → Type 0
-  Asked u e = (u ≡ t) × (e ≡ d)
-
-  lone : IsLone (regions t d)
-  lone = hero_is_lone t d once stands
-
-  readable : Each IsReadable payloads
-  readable = all_readable payloads (hero_payloads_make_sense t d once stands placed) (hero_payloads_are_shallow t d once stands)
+  abbrev Asked : Forest → Type 0
+  Asked g = g ≡ f
 
   -- ---- right outcomes
 
-  delivered_way : Each Fits (texts t d) → (line : List ℕ) → IsMergedLine (regions t d) line → Answered (Built t d) (record { status = Done; bytes = body t d ++ line })
+  delivered_way : Each Fits (texts f) → (line : List ℕ) → IsMergedLine f line → Answered (Executed f) (record { status = Done; bytes = body f ++ line })
   delivered_way fit line merged = inl (record { fit = fit; line = line; is_merged = merged; is = refl })
 
-  cut_off_way : (before : List (List ℕ)) (text : List ℕ) (after : List (List ℕ)) → texts t d ≡ before ++ text ∷ after → Each Fits before → part_limit < length text
-      → Answered (Built t d) (record { status = StreamRefused; bytes = up_to before text after })
+  cut_off_way : (before : List (List ℕ)) (text : List ℕ) (after : List (List ℕ)) → texts f ≡ before ++ text ∷ after → Each Fits before → part_limit < length text
+      → Answered (Executed f) (record { status = StreamRefused; bytes = up_to before text after })
   cut_off_way before text after all fit long = inr (record { before = before; text = text; after = after; all = all; fit = fit; too_long = long; is = refl })
 
   -- the line of its response
-  line_there : (line : List ℕ) × IsMergedLine (regions t d) line
-  line_there = line_of (regions t d) (hero_has_a_response t d once stands tables_fit)
+  line_there : (line : List ℕ) × IsMergedLine f line
+  line_there = line_of f served.value served.errors served.failures served.merged
 
   -- what was put is a front of what a right outcome writes
   module _ (a b : Option (List ℕ)) where
-    front_by : (before : List (List ℕ)) (text : List ℕ) (after : List (List ℕ)) → texts t d ≡ before ++ text ∷ after → Each Fits before → AppendsPrefix a b (up_to before text after)
-        → Each Fits (text ∷ after) ⊎ TooLongIn (text ∷ after) → Front (Answered (Built t d)) a b
+    front_by : (before : List (List ℕ)) (text : List ℕ) (after : List (List ℕ)) → texts f ≡ before ++ text ∷ after → Each Fits before → AppendsPrefix a b (up_to before text after)
+        → Each Fits (text ∷ after) ⊎ TooLongIn (text ∷ after) → Front (Answered (Executed f)) a b
     front_by before text after all fit some (inl rest) =
         let line = line_there in
         let whole = up_to-frame before text after in
         let fits = subst (Each Fits) (sym all) (each-join Fits before (text ∷ after) fit rest) in (
-          record { status = Done; bytes = body t d ++ line.0 },
+          record { status = Done; bytes = body f ++ line.0 },
           delivered_way fits line.0 line.1,
-          Prefix-within a b (body t d) line.0 (subst (AppendsPrefix a b) (sym (ap frame all ∙ whole.1)) (Prefix-within a b (up_to before text after) whole.0 some)),
+          Prefix-within a b (body f) line.0 (subst (AppendsPrefix a b) (sym (ap frame all ∙ whole.1)) (Prefix-within a b (up_to before text after) whole.0 some)),
         )
     front_by before text after all fit some (inr long) = long_by long.before long.text long.after long.all long.fit long.long
       where
-        long_by : (between : List (List ℕ)) (u : List ℕ) (rest : List (List ℕ)) → text ∷ after ≡ between ++ u ∷ rest → Each Fits between → part_limit < length u → Front (Answered (Built t d)) a b
+        long_by : (between : List (List ℕ)) (u : List ℕ) (rest : List (List ℕ)) → text ∷ after ≡ between ++ u ∷ rest → Each Fits between → part_limit < length u → Front (Answered (Executed f)) a b
         long_by [] u rest is within more =
             let same : text ≡ u = cc in
             let tail : after ≡ rest = cc in (
@@ -116,7 +108,7 @@ module _ (t : HeroTables) (d : HeroDocument) (once : EachOnce d) (stands : RefSt
 
   -- ---- a failure before the end
 
-  texts-split : (before : List Payload) (p : Payload) (after : List Payload) → payloads ≡ before ++ p ∷ after → texts t d ≡ map payload_text before ++ payload_text p ∷ map payload_text after
+  texts-split : (before : List Payload) (p : Payload) (after : List Payload) → payloads ≡ before ++ p ∷ after → texts f ≡ map payload_text before ++ payload_text p ∷ map payload_text after
   texts-split before p after all = ap (map payload_text) all ∙ map-append payload_text before (p ∷ after)
 
   module _ (c : Client) (fresh : IsNew c) where
@@ -124,12 +116,12 @@ module _ (t : HeroTables) (d : HeroDocument) (once : EachOnce d) (stands : RefSt
     before_fit : (before : List Payload) → Goes c (so_far (map payload_text before)) → Each Fits (map payload_text before)
     before_fit before goes = so_far_fits (map payload_text before) (payload_lines before) (goes (nothing_heard dash) fresh.stands)
 
-    reached_front : (a b : Option (List ℕ)) → Reached payloads a b c → Front (Answered (Built t d)) a b
+    reached_front : (a b : Option (List ℕ)) → Reached payloads a b c → Front (Answered (Executed f)) a b
     reached_front a b reached =
         front_by a b (map payload_text reached.before) (payload_text reached.payload) (map payload_text reached.after) (texts-split reached.before reached.payload reached.after reached.all)
         (before_fit reached.before reached.goes) reached.put (all_fit_or (payload_text reached.payload ∷ map payload_text reached.after))
 
-    took_front : (new : Client) → HearsFront c new (body t d) → TookFront t d new
+    took_front : (new : Client) → HearsFront c new (body f) → TookFront f new
     took_front new (front, back, cut, hears) = record { front = front; back = back; cut = cut; stands = hears (nothing_heard dash) fresh.stands }
 
     module _ (a b : Option (List ℕ)) (new : Client) (stopped : Stopped payloads a b c new) where
@@ -142,19 +134,19 @@ module _ (t : HeroTables) (d : HeroDocument) (once : EachOnce d) (stands : RefSt
       abbrev after : List (List ℕ)
       after = map payload_text stopped.after
 
-      all : texts t d ≡ before ++ text ∷ after
+      all : texts f ≡ before ++ text ∷ after
       all = texts-split stopped.before stopped.payload stopped.after stopped.all
 
       fit : Each Fits before
       fit = before_fit stopped.before stopped.goes
 
-      whole : (rest : List ℕ) × (body t d ≡ up_to before text after ++ rest)
+      whole : (rest : List ℕ) × (body f ≡ up_to before text after ++ rest)
       whole = (let w = up_to-frame before text after in (w.0, ap frame all ∙ w.1))
 
       refused_at : (front : List ℕ) × (back : List ℕ) × (up_to before text after ≡ front ++ back) × IsRefused new dash front
       refused_at = stopped.stops (nothing_heard dash) fresh.stands
 
-      refused_body : RefusedBody t d new
+      refused_body : RefusedBody f new
       refused_body = record {
         front = refused_at.0;
         back = refused_at.1 ++ whole.0;
@@ -173,79 +165,76 @@ module _ (t : HeroTables) (d : HeroDocument) (once : EachOnce d) (stands : RefSt
           let cut : refused_at.0 ++ (refused_at.1 ++ first_of.0) ≡ frame (map payload_text mine) =
           sym (append_assoc refused_at.0 refused_at.1 first_of.0) ∙ (ap (λ xs. xs ++ first_of.0) (sym refused_at.2) ∙ (sym first_of.1 ∙ ap frame (sym mine_texts))) in
           let some = some_first stopped.before stopped.payload in
-          refuses_none (regions t d) lone first later refl mine stopped.after front_all
-          (each-front IsReadable mine stopped.after (subst (Each IsReadable) front_all readable)) stopped.written some.0 some.1 some.2
+          refuses_none f served.lone first later refl mine stopped.after front_all
+          (each-front IsReadable mine stopped.after (subst (Each IsReadable) front_all served.readable)) stopped.written some.0 some.1 some.2
           (subst (Each Fits) (sym mine_texts) (each-snoc Fits before text fit fits)) refused_at.0 (refused_at.1 ++ first_of.0) cut new.merger.state refused_at.3.0 refused_at.3.2))
 
     -- how it ends
     abbrev Ending : Status → Option (List ℕ) → Option (List ℕ) → ℕ → Client → Type 0
-    Ending s a b cut new = Meets (Answered (Built t d)) s a b × ClientEnds Asked cut c new a b s
+    Ending s a b cut new = Meets (Answered (Executed f)) s a b × ClientEnds Asked cut c new a b s
 
     failing : (cut : ℕ) (a b : Option (List ℕ)) (new : Client) (s : Status) → HandedAll payloads cut a b c new (Err s) → Ending s a b cut new
     failing cut a b new StreamRefused h = (
       (record { status = StreamRefused; bytes = up_to (before a b new h) (text a b new h) (after a b new h) }, cut_off_way (before a b new h) (text a b new h) (after a b new h) (all a b new h) (fit a b new h) (too_long a b new h), refl, h.put),
-      (t, d, (refl, refl), refused_body a b new h),
+      (f, refl, refused_body a b new h),
     )
-    failing cut a b new WriteFault h = (reached_front a b h.0, inr (t, d, (refl, refl), took_front new h.1))
+    failing cut a b new WriteFault h = (reached_front a b h.0, inr (f, refl, took_front new h.1))
     failing cut a b new NoMemory h = (inr (reached_front a b h), tt)
     failing cut a b new _ h = absurd h
 
     -- ---- the end
 
     module _ (cut : ℕ) (a b : Option (List ℕ)) (new : Client) (h : HandedAll payloads cut a b c new (Ok tt)) where
-      heard_all : StandsFor new (body t d)
+      heard_all : StandsFor new (body f)
       heard_all = h.2 (nothing_heard dash) fresh.stands
 
-      all_fit : Each Fits (texts t d)
-      all_fit = frame_fits (texts t d) (payload_lines payloads) heard_all.is_open
+      all_fit : Each Fits (texts f)
+      all_fit = frame_fits (texts f) (payload_lines payloads) heard_all.is_open
 
       -- the body alone is a front of what a right outcome writes
-      body_put : (e : Option (List ℕ)) → Keeps b e → Front (Answered (Built t d)) a e
+      body_put : (e : Option (List ℕ)) → Keeps b e → Front (Answered (Executed f)) a e
       body_put e kept = (
-        record { status = Done; bytes = body t d ++ line_there.0 },
+        record { status = Done; bytes = body f ++ line_there.0 },
         delivered_way all_fit line_there.0 line_there.1,
-        Prefix-within a e (body t d) line_there.0 (Prefix-all a e (body t d) (Appends-kept a b e (body t d) h.1 kept)),
+        Prefix-within a e (body f) line_there.0 (Prefix-all a e (body f) (Appends-kept a b e (body f) h.1 kept)),
       )
 
       module _ (typed : IsTypedState new.merger.state) where
-        merged : HasMerged (regions t d) new.merger.state
-        merged = merges_all (regions t d) lone first later refl readable h.0 all_fit new.merger.state typed (heard_all.contents, heard_all.took.complete, heard_all.all, heard_all.took.follows)
+        merged : HasMerged f new.merger.state
+        merged = merges_all f served.lone first later refl served.readable h.0 all_fit new.merger.state typed (heard_all.contents, heard_all.took.complete, heard_all.all, heard_all.took.follows)
 
-        line : IsMergedLine (regions t d) (merged_line new.merger.state)
-        line = line_merged (regions t d) new.merger.state merged
+        line : IsMergedLine f (merged_line new.merger.state)
+        line = line_merged f new.merger.state merged
 
-        right : Answered (Built t d) (record { status = Done; bytes = body t d ++ merged_line new.merger.state })
+        right : Answered (Executed f) (record { status = Done; bytes = body f ++ merged_line new.merger.state })
         right = delivered_way all_fit (merged_line new.merger.state) line
 
       abbrev outcome : Outcome
-      outcome = record { status = Done; bytes = body t d ++ merged_line new.merger.state }
+      outcome = record { status = Done; bytes = body f ++ merged_line new.merger.state }
 
-      took_body : (e : Option (List ℕ)) → Appends b e (merged_line new.merger.state) → TookBody t d cut new a e
+      took_body : (e : Option (List ℕ)) → Appends b e (merged_line new.merger.state) → TookBody f cut new a e
       took_body e put = record {
         stands = heard_all;
         cuts = h.3 0 fresh.uncut ∙ ap counted (zero-add _);
-        line = Appends-trans a b e (body t d) (merged_line new.merger.state) h.1 put;
+        line = Appends-trans a b e (body f) (merged_line new.merger.state) h.1 put;
       }
 
-      took_all : TookFront t d new
-      took_all = record { front = body t d; back = []; cut = sym (append-nil (body t d)); stands = heard_all }
+      took_all : TookFront f new
+      took_all = record { front = body f; back = []; cut = sym (append-nil (body f)); stands = heard_all }
 
       ending : (e : Option (List ℕ)) (r : Result (Unit {0}) Status) → PutsLine new.merger.state b e r → Ending (ended r) a e cut new
-      ending e (Ok x) (typed, put) = ((outcome, right typed, refl, Appends-trans a b e (body t d) (merged_line new.merger.state) h.1 put), (t, d, (refl, refl), took_body e put))
-      ending e (Err WriteFault) (typed, some) = ((outcome, right typed, Prefix-after a b e (body t d) (merged_line new.merger.state) h.1 some), inr (t, d, (refl, refl), took_all))
+      ending e (Ok x) (typed, put) = ((outcome, right typed, refl, Appends-trans a b e (body f) (merged_line new.merger.state) h.1 put), (f, refl, took_body e put))
+      ending e (Err WriteFault) (typed, some) = ((outcome, right typed, Prefix-after a b e (body f) (merged_line new.merger.state) h.1 some), inr (f, refl, took_all))
       ending e (Err NoMemory) kept = (inr (body_put e kept), tt)
       ending e (Err _) put = absurd put
 
 -- ---- the calls
 
-pub executed-failing : (t : HeroTables) (d : HeroDocument) (once : EachOnce d) (stands : RefStands t) (placed : IsPlaced d) (tables_fit : TablesFit t) (c : Client) (fresh : IsNew c) (cut : ℕ) (a b : Option (List ℕ)) (new : Client)
-    (r : Result (Unit {0}) Status) (s : Status) → IsErrAnd r (λ e. e ≡ s) → HandedAll (first_payloads (regions t d)) cut a b c new (Err s)
-    → Meets (Answered (Built t d)) (ended r) a b × ClientEnds (λ u e. (u ≡ t) × (e ≡ d)) cut c new a b (ended r)
-executed-failing t d once stands placed tables_fit c fresh cut a b new (Ok x) s err h = absurd err
-executed-failing t d once stands placed tables_fit c fresh cut a b new (Err e) s err h =
-    subst (λ (x : Status). Meets (Answered (Built t d)) x a b × ClientEnds (λ u e. (u ≡ t) × (e ≡ d)) cut c new a b x) (sym err) (failing t d once stands placed tables_fit c fresh cut a b new s h)
+pub executed-failing : (f : Forest) (served : CanBeServed f) (c : Client) (fresh : IsNew c) (cut : ℕ) (a b : Option (List ℕ)) (new : Client) (r : Result (Unit {0}) Status) (s : Status) → IsErrAnd r (λ e. e ≡ s)
+    → HandedAll (first_payloads f) cut a b c new (Err s) → Meets (Answered (Executed f)) (ended r) a b × ClientEnds (λ g. g ≡ f) cut c new a b (ended r)
+executed-failing f served c fresh cut a b new (Ok x) s err h = absurd err
+executed-failing f served c fresh cut a b new (Err e) s err h = subst (λ (x : Status). Meets (Answered (Executed f)) x a b × ClientEnds (λ g. g ≡ f) cut c new a b x) (sym err) (failing f served c fresh cut a b new s h)
 
-pub executed-ending : (t : HeroTables) (d : HeroDocument) (once : EachOnce d) (stands : RefStands t) (placed : IsPlaced d) (tables_fit : TablesFit t) (c : Client) (fresh : IsNew c) (cut : ℕ) (a b e : Option (List ℕ)) (new : Client)
-    (r : Result (Unit {0}) Status) → HandedAll (first_payloads (regions t d)) cut a b c new (Ok tt) → PutsLine new.merger.state b e r
-    → Meets (Answered (Built t d)) (ended r) a e × ClientEnds (λ u e. (u ≡ t) × (e ≡ d)) cut c new a e (ended r)
-executed-ending t d once stands placed tables_fit c fresh cut a b e new r handed put = ending t d once stands placed tables_fit c fresh cut a b new handed e r put
+pub executed-ending : (f : Forest) (served : CanBeServed f) (c : Client) (fresh : IsNew c) (cut : ℕ) (a b e : Option (List ℕ)) (new : Client) (r : Result (Unit {0}) Status)
+    → HandedAll (first_payloads f) cut a b c new (Ok tt) → PutsLine new.merger.state b e r → Meets (Answered (Executed f)) (ended r) a e × ClientEnds (λ g. g ≡ f) cut c new a e (ended r)
+executed-ending f served c fresh cut a b e new r handed put = ending f served c fresh cut a b new handed e r put

@@ -1,6 +1,7 @@
 -- How a command goes on from file to file.
 use Rattle.std.proofs.Common.{◌≡◌, ℕ, ◌≤◌, List, ◌++◌, length, Option, None, Some, Result, Ok, Err, subst, sym, ap, ◌∙◌, inl, inr}
 use Rattle.std.specs.Prelude.{codes}
+use Rattle.std.specs.Prelude.{IfErr}
 use Rattle.std.specs.Result.{IsErrAnd}
 use Rattle.std.specs.Io.KnownBytes.{Appends, Keeps}
 use Rattle.std.proofs.KnownBytes.{Keeps-trans}
@@ -9,10 +10,11 @@ use Rattle.gql_io.specs.declared.shelf.ShelfRefusal.TheVariants.{Missing, TooLon
 use Rattle.gql_io.proofs.Told.{Prefix-kept}
 use Rattle.gql_tool.specs.declared.status.Status.{Status}
 use Rattle.gql_tool.specs.declared.status.Status.TheVariants.{ReadFault, WriteFault, NoMemory, NoFile, TooLong}
-use Rattle.gql_tool.specs.declared.request.Request.{Request}
 use Rattle.gql_tool.specs.Outcome.{Outcome, Ways, AfterFile, names, file_limit}
-use Rattle.gql_tool.specs.Local.{Judged, Answered, RequestWays}
-use Rattle.gql_tool.specs.Meets.{Meets, MeetsTold, Finds, FileStops, StopsAt, ended}
+use Rattle.gql_tool.specs.Judged.{Judgement, Judged}
+use Rattle.gql_tool.specs.Local.{Answered, LocalWays}
+use Rattle.gql_tool.specs.Meets.{Meets, MeetsTold}
+use Rattle.gql_tool.specs.inner.Steps.{Finds, FileStops, StopsAt, Requests}
 
 pub Appends-kept_first : (a b c : Option (List ℕ)) (bytes : List ℕ) → Keeps a b → Appends b c bytes → Appends a c bytes
 Appends-kept_first None b c bytes kept more = tt
@@ -82,11 +84,6 @@ untold : (of : Ways) (all : Files → Ways) (status : Status) (a b : Option (Lis
 untold of all ReadFault a b meets = meets
 untold of all _ a b meets = tt
 
--- whether it tells or not
-pub at_work : (told : Option Files) (of : Ways) (status : Status) (a b : Option (List ℕ)) → Meets of status a b → MeetsTold told (λ _. of) status a b
-at_work None of status a b meets = untold of (λ _. of) status a b meets
-at_work (Some files) of status a b meets = meets
-
 pub stops_missing : (told : Option Files) (name : List ℕ) (status : Status) (a b : Option (List ℕ)) → Reads told name file_limit (Err Missing)
     → Meets (λ o. o ≡ names NoFile (codes "no such file: ") name) status a b → StopsAt told name status a b
 stops_missing None name status a b reads meets = untold (λ o. o ≡ names NoFile (codes "no such file: ") name) (λ files. FileStops (files name) name) status a b meets
@@ -100,19 +97,36 @@ stops_too_long (Some files) name status a b reads meets =
     (Meets-more (λ o. o ≡ names TooLong (codes "too long: ") name) (FileStops (Some reads.0) name) status a b (λ o is. (reads.2, is)) meets)
 
 -- a command that ended early
-pub at_end : {T : Type 0} (told : Option Files) (of : Files → Ways) (r : Result T Status) (status : Status) (a b : Option (List ℕ)) → IsErrAnd r (λ e. e ≡ status)
-    → MeetsTold told of status a b → MeetsTold told of (ended r) a b
-at_end told of (Ok x) status a b err meets = absurd err
+pub at_end : {T : Type 0} (told : Option Files) (of : Files → Ways) (r : Result T Status) (status : Status) (a b : Option (List ℕ)) → IsErrAnd r (λ e. e ≡ status) → MeetsTold told of status a b → IfErr r (λ e. MeetsTold told of e a b)
+at_end told of (Ok x) status a b err meets = tt
 at_end told of (Err e) status a b err meets = subst (λ (s : Status). MeetsTold told of s a b) (sym err) meets
 
 -- a request by the bytes that its slices have
-pub same_request : (vars s t d schema tables document : List ℕ) (status : Status) (a b : Option (List ℕ)) → s ≡ schema → t ≡ tables → d ≡ document
-    → Meets (RequestWays vars s t d) status a b → Meets (RequestWays vars schema tables document) status a b
-same_request vars s t d schema tables document status a b is_schema is_tables is_document meets =
-    subst (λ (x : List ℕ). Meets (RequestWays vars schema tables x) status a b) is_document
-    (subst (λ (x : List ℕ). Meets (RequestWays vars schema x d) status a b) is_tables
-    (subst (λ (x : List ℕ). Meets (RequestWays vars x t d) status a b) is_schema meets))
+pub same_judged : (vars s t d schema tables document : List ℕ) (is : Judgement) → s ≡ schema → t ≡ tables → d ≡ document → Judged vars s t d is → Judged vars schema tables document is
+same_judged vars s t d schema tables document is is_schema is_tables is_document judged =
+    subst (λ (x : List ℕ). Judged vars schema tables x is) is_document (subst (λ (x : List ℕ). Judged vars schema x d is) is_tables (subst (λ (x : List ℕ). Judged vars x t d is) is_schema judged))
 
--- a request by what it is judged to be
-pub meets_of : (vars s t d : List ℕ) (request : Request) (status : Status) (a b : Option (List ℕ)) → Judged vars s t d request → Meets (Answered request) status a b → Meets (RequestWays vars s t d) status a b
-meets_of vars s t d request status a b judged meets = Meets-more (Answered request) (RequestWays vars s t d) status a b (λ o right. (request, judged, right)) meets
+-- the three files that were found, on a shelf that tells the same all the while
+pub requests : (told second third : Option Files) (schema tables document vars s b c : List ℕ) (is : Judgement) → second ≡ told → third ≡ second → Finds told schema s → length s ≤ file_limit → Finds second tables b → length b ≤ file_limit
+    → Finds third document c → length c ≤ file_limit → Judged vars s b c is → Requests told schema tables document vars is
+requests told second third schema tables document vars s b c is is_second is_third has_s fits_s has_b fits_b has_c fits_c judged =
+    by told has_s (here second is_second tables b has_b) (here third (is_third ∙ is_second) document c has_c)
+  where
+    here : (f : Option Files) → f ≡ told → (name bytes : List ℕ) → Finds f name bytes → Finds told name bytes
+    here f same name bytes has = subst (λ (o : Option Files). Finds o name bytes) same has
+
+    by : (f : Option Files) → Finds f schema s → Finds f tables b → Finds f document c → Requests f schema tables document vars is
+    by None at_schema at_tables at_document = tt
+    by (Some files) at_schema at_tables at_document = (s, b, c, at_schema, fits_s, at_tables, fits_b, at_document, fits_c, judged)
+
+-- a request that was read is answered
+pub answers : (told : Option Files) (schema tables document vars : List ℕ) (is : Judgement) (status : Status) (x y z : Option (List ℕ)) → Requests told schema tables document vars is → Keeps x y → Meets (Answered is) status y z
+    → MeetsTold told (LocalWays schema tables document vars) status x z
+answers None schema tables document vars is status x y z asked kept meets = untold (Answered is) (LocalWays schema tables document vars) status x z (Meets-kept (Answered is) status x y z kept meets)
+answers (Some files) schema tables document vars is status x y z (s, b, c, at_schema, fits_s, at_tables, fits_b, at_document, fits_c, judged) kept meets =
+    Meets-more (Answered is) (LocalWays schema tables document vars files) status x z
+    (λ o right.
+    found (files schema) schema s _ o at_schema fits_s
+    (found (files tables) tables b _ o at_tables fits_b
+    (found (files document) document c _ o at_document fits_c (is, judged, right))))
+    (Meets-kept (Answered is) status x y z kept meets)

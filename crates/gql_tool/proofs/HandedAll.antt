@@ -11,9 +11,9 @@ use Rattle.gql_multipart.specs.Frame.{frame, mark, piece}
 use Rattle.gql_multipart.specs.Framed.{framed, so_far}
 use Rattle.gql_tool.specs.declared.status.Status.{Status}
 use Rattle.gql_tool.specs.declared.status.Status.TheVariants.{WriteFault, NoMemory, StreamRefused}
-use Rattle.gql_tool.specs.declared.client.Client.{Client}
+use Rattle.gql_client.specs.declared.client.Client.{Client}
 use Rattle.gql_tool.specs.LocalClient.{cuts_in, cuts_of}
-use Rattle.gql_tool.specs.Handed.{Hears, HearsFront, StopsIn, Goes, Handed, Reached, HandedAll}
+use Rattle.gql_tool.specs.inner.Handed.{Hears, HearsFront, StopsIn, Goes, Handed, Reached, HandedAll}
 use Rattle.gql_tool.proofs.Sent.{Prefix-all, Prefix-nothing, frame-two}
 use Rattle.gql_tool.proofs.Cuts.{Hears-nothing, Hears-more, StopsIn-later, CountsOn-more, CountsOn-same}
 

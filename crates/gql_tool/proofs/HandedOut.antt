@@ -6,9 +6,9 @@ use Rattle.gql_tool.proofs.Sent.{Prefix-all}
 use Rattle.gql_tree.specs.declared.Payload.{Payload}
 use Rattle.gql_tool.specs.declared.status.Status.{Status}
 use Rattle.gql_tool.specs.declared.status.Status.TheVariants.{NoMemory, StreamRefused}
-use Rattle.gql_tool.specs.declared.client.Client.{Client}
+use Rattle.gql_client.specs.declared.client.Client.{Client}
 use Rattle.gql_tool.specs.LocalClient.{cuts_in}
-use Rattle.gql_tool.specs.Handed.{IsWritten, Hears, StopsIn, CountsOn, Handed}
+use Rattle.gql_tool.specs.inner.Handed.{IsWritten, Hears, StopsIn, CountsOn, Handed}
 
 module _ (p : Payload) (cut : ℕ) (a b : Option (List ℕ)) (c d : Client) where
   fed : (piece : List ℕ) (r : Result (Unit {0}) Status) → IsWritten p → Appends a b piece → OnOk r (Hears c d piece) → OnOk r (CountsOn c d (cuts_in cut piece))

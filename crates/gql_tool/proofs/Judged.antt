@@ -3,9 +3,8 @@ use Rattle.std.proofs.Common.{◌≡◌, ℕ, ◌≤◌, List, length, Option, N
 use Rattle.gql_io.specs.Files.{Files}
 use Rattle.gql_tool.specs.declared.status.Status.{Status}
 use Rattle.gql_tool.specs.declared.status.Status.TheVariants.{Done, Refused, ReadFault, WriteFault, NoMemory}
-use Rattle.gql_tool.specs.declared.request.Request.{Request}
-use Rattle.gql_tool.specs.declared.request.Request.TheVariants.{NoText, NoDocument, NotBuilt, Built}
 use Rattle.gql_tool.specs.Outcome.{Outcome, Ways, AfterFile, file_limit}
+use Rattle.gql_tool.specs.Judged.{Judgement, NoText, NoDocument, NotBuilt, Executed}
 use Rattle.gql_tool.specs.Local.{Answered, RequestWays, LocalWays}
 use Rattle.gql_tool.specs.Meets.{Meets, MeetsTold, IsJudged, HasFiles, Whole}
 
@@ -18,12 +17,12 @@ leads_on file name bytes next o is within after = here (subst (λ (f : Option (L
     here (inl over) = absurd (omega (arith, within, over.0))
     here (inr right) = right.1
 
-answered : (request : Request) (o : Outcome) → Answered request o → IsJudged o.status
+answered : (is : Judgement) (o : Outcome) → Answered is o → IsJudged o.status
 answered NoText o is = subst (λ (p : Outcome). IsJudged p.status) (sym is) tt
 answered (NoDocument refusal) o is = subst (λ (p : Outcome). IsJudged p.status) (sym is) tt
 answered NotBuilt o is = subst (λ (p : Outcome). IsJudged p.status) (sym is) tt
-answered (Built t d) o (inl delivered) = subst (λ (p : Outcome). IsJudged p.status) (sym delivered.is) tt
-answered (Built t d) o (inr cut) = subst (λ (p : Outcome). IsJudged p.status) (sym cut.is) tt
+answered (Executed f) o (inl delivered) = subst (λ (p : Outcome). IsJudged p.status) (sym delivered.is) tt
+answered (Executed f) o (inr cut) = subst (λ (p : Outcome). IsJudged p.status) (sym cut.is) tt
 
 -- the right outcomes are those of the request
 right : (files : Files) (schema tables document vars : List ℕ) (o : Outcome) → HasFiles (Some files) schema tables document → LocalWays schema tables document vars files o

@@ -16,12 +16,10 @@ use Rattle.gql_doc.specs.Answer.{Answers, most_bytes}
 use Rattle.gql_doc.proofs.OneAnswer.{one_answer}
 use Rattle.gql_io.specs.Files.{Files}
 use Rattle.gql_tool.specs.declared.status.Status.TheVariants.{Done, StreamRefused}
-use Rattle.gql_tool.specs.declared.shape.HeroDocument.{HeroDocument}
-use Rattle.gql_tool.specs.declared.tables.HeroTables.{HeroTables}
-use Rattle.gql_tool.specs.declared.request.Request.{Request}
-use Rattle.gql_tool.specs.declared.request.Request.TheVariants.{NoText, NoDocument, NotBuilt, Built}
 use Rattle.gql_tool.specs.Outcome.{Outcome, Ways, AfterFile}
-use Rattle.gql_tool.specs.Local.{built, Parses, Judged, Fits, part_limit, texts, regions, body, IsMergedLine, IsDelivered, IsCutOff, up_to, Answered, RequestWays, LocalWays}
+use Rattle.gql_tool.specs.hero.Built.{forest_of}
+use Rattle.gql_tool.specs.Judged.{Judgement, NoText, NoDocument, NotBuilt, Executed, Parses, Judged}
+use Rattle.gql_tool.specs.Local.{Fits, part_limit, texts, body, IsMergedLine, IsDelivered, IsCutOff, up_to, Answered, RequestWays, LocalWays}
 
 -- one outcome is right
 abbrev IsOne : Ways → Type 0
@@ -86,32 +84,32 @@ not_both : {A : Type 0} (text : List ℕ) (it : Document) (why : ParseRefusal) �
 not_both text it why h k = absurd (ok_not_err it why (parses_one text (Ok it) (Err why) h k))
 
 module _ (vars schema tables document : List ℕ) where
-  abbrev asked : Document → Option (HeroTables × HeroDocument)
-  asked it = built vars schema tables it
+  abbrev asked : Document → Option Forest
+  asked it = forest_of vars schema tables it
 
-  built_apart : (a b : Document) (x : HeroTables × HeroDocument) → a ≡ b → asked a ≡ None → asked b ≡ Some x → ⊥
-  built_apart a b x same h k = let bad : None ≡ Some x = sym h ∙ (ap asked same ∙ k) in cc
+  built_apart : (a b : Document) (f : Forest) → a ≡ b → asked a ≡ None → asked b ≡ Some f → ⊥
+  built_apart a b f same h k = let bad : None ≡ Some f = sym h ∙ (ap asked same ∙ k) in cc
 
-  built_one : (a b : Document) (x y : HeroTables × HeroDocument) → a ≡ b → asked a ≡ Some x → asked b ≡ Some y → x ≡ y
-  built_one a b x y same h k = let one : Some x ≡ Some y = sym h ∙ (ap asked same ∙ k) in cc
+  built_one : (a b : Document) (f g : Forest) → a ≡ b → asked a ≡ Some f → asked b ≡ Some g → f ≡ g
+  built_one a b f g same h k = let one : Some f ≡ Some g = sym h ∙ (ap asked same ∙ k) in cc
 
-  request_one : (a b : Request) → Judged vars schema tables document a → Judged vars schema tables document b → a ≡ b
-  request_one NoText NoText h k = refl
-  request_one NoText (NoDocument f) h k = absurd (h k.0)
-  request_one NoText NotBuilt h k = absurd (h k.0)
-  request_one NoText (Built t d) h k = absurd (h k.0)
-  request_one (NoDocument e) NoText h k = absurd (k h.0)
-  request_one (NoDocument e) (NoDocument f) h k = ap NoDocument (err_same e f (parses_one document (Err e) (Err f) h.1 k.1))
-  request_one (NoDocument e) NotBuilt h k = not_both document k.1 e k.2 h.1
-  request_one (NoDocument e) (Built t d) h k = not_both document k.1 e k.2 h.1
-  request_one NotBuilt NoText h k = absurd (k h.0)
-  request_one NotBuilt (NoDocument f) h k = not_both document h.1 f h.2 k.1
-  request_one NotBuilt NotBuilt h k = refl
-  request_one NotBuilt (Built t d) h k = absurd (built_apart h.1 k.1 (t, d) (document_one document h.1 k.1 h.2 k.2) h.3 k.3)
-  request_one (Built t d) NoText h k = absurd (k h.0)
-  request_one (Built t d) (NoDocument f) h k = not_both document h.1 f h.2 k.1
-  request_one (Built t d) NotBuilt h k = absurd (built_apart k.1 h.1 (t, d) (document_one document k.1 h.1 k.2 h.2) k.3 h.3)
-  request_one (Built t d) (Built u e) h k = ap (λ (x : HeroTables × HeroDocument). Built x.0 x.1) (built_one h.1 k.1 (t, d) (u, e) (document_one document h.1 k.1 h.2 k.2) h.3 k.3)
+  judgement_one : (a b : Judgement) → Judged vars schema tables document a → Judged vars schema tables document b → a ≡ b
+  judgement_one NoText NoText h k = refl
+  judgement_one NoText (NoDocument e) h k = absurd (h k.0)
+  judgement_one NoText NotBuilt h k = absurd (h k.0)
+  judgement_one NoText (Executed f) h k = absurd (h k.0)
+  judgement_one (NoDocument e) NoText h k = absurd (k h.0)
+  judgement_one (NoDocument e) (NoDocument i) h k = ap NoDocument (err_same e i (parses_one document (Err e) (Err i) h.1 k.1))
+  judgement_one (NoDocument e) NotBuilt h k = not_both document k.1 e k.2 h.1
+  judgement_one (NoDocument e) (Executed f) h k = not_both document k.1 e k.2 h.1
+  judgement_one NotBuilt NoText h k = absurd (k h.0)
+  judgement_one NotBuilt (NoDocument e) h k = not_both document h.1 e h.2 k.1
+  judgement_one NotBuilt NotBuilt h k = refl
+  judgement_one NotBuilt (Executed f) h k = absurd (built_apart h.1 k.1 f (document_one document h.1 k.1 h.2 k.2) h.3 k.3)
+  judgement_one (Executed f) NoText h k = absurd (k h.0)
+  judgement_one (Executed f) (NoDocument e) h k = not_both document h.1 e h.2 k.1
+  judgement_one (Executed f) NotBuilt h k = absurd (built_apart k.1 h.1 f (document_one document k.1 h.1 k.2 h.2) k.3 h.3)
+  judgement_one (Executed f) (Executed g) h k = ap Executed (built_one h.1 k.1 f g (document_one document h.1 k.1 h.2 k.2) h.3 k.3)
 
 -- ---- the line of the defined response
 
@@ -144,12 +142,12 @@ first_long (x ∷ xs) (y ∷ ys) text last after rest same fit long fits longer 
 
 -- ---- the outcomes
 
-module _ (t : HeroTables) (d : HeroDocument) where
-  delivered_one : IsOne (IsDelivered t d)
+module _ (f : Forest) where
+  delivered_one : IsOne (IsDelivered f)
   delivered_one a b h k =
-      h.is ∙ (ap (λ (line : List ℕ). (let o : Outcome = record { status = Done; bytes = body t d ++ line } in o)) (line_one (regions t d) h.line k.line h.is_merged k.is_merged) ∙ sym k.is)
+      h.is ∙ (ap (λ (line : List ℕ). (let o : Outcome = record { status = Done; bytes = body f ++ line } in o)) (line_one f h.line k.line h.is_merged k.is_merged) ∙ sym k.is)
 
-  cut_off_one : IsOne (IsCutOff (texts t d))
+  cut_off_one : IsOne (IsCutOff (texts f))
   cut_off_one a b h k =
       let one = first_long h.before k.before h.text k.text h.after k.after (sym h.all ∙ k.all) h.fit h.too_long k.fit k.too_long in
       h.is ∙ ((λ i. record { status = StreamRefused; bytes = up_to (one.0 i) (one.1 i) (one.2 i) }) ∙ sym k.is)
@@ -158,21 +156,21 @@ module _ (t : HeroTables) (d : HeroDocument) where
   fit_there [] text after h = h.0
   fit_there (x ∷ before) text after h = fit_there before text after h.1
 
-  not_cut_off : {A : Type 0} (a b : Outcome) → IsDelivered t d a → IsCutOff (texts t d) b → A
+  not_cut_off : {A : Type 0} (a b : Outcome) → IsDelivered f a → IsCutOff (texts f) b → A
   not_cut_off a b h k = fits_not k.text k.text refl (fit_there k.before k.text k.after (subst (Each Fits) k.all h.fit)) k.too_long
 
-answered_one : (request : Request) → IsOne (Answered request)
+answered_one : (is : Judgement) → IsOne (Answered is)
 answered_one NoText a b h k = h ∙ sym k
 answered_one (NoDocument refusal) a b h k = h ∙ sym k
 answered_one NotBuilt a b h k = h ∙ sym k
-answered_one (Built t d) a b (inl h) (inl k) = delivered_one t d a b h k
-answered_one (Built t d) a b (inl h) (inr k) = not_cut_off t d a b h k
-answered_one (Built t d) a b (inr h) (inl k) = not_cut_off t d b a k h
-answered_one (Built t d) a b (inr h) (inr k) = cut_off_one t d a b h k
+answered_one (Executed f) a b (inl h) (inl k) = delivered_one f a b h k
+answered_one (Executed f) a b (inl h) (inr k) = not_cut_off f a b h k
+answered_one (Executed f) a b (inr h) (inl k) = not_cut_off f b a k h
+answered_one (Executed f) a b (inr h) (inr k) = cut_off_one f a b h k
 
 request_ways_one : (vars schema tables document : List ℕ) → IsOne (RequestWays vars schema tables document)
 request_ways_one vars schema tables document a b h k =
-    answered_one k.0 a b (subst (λ (r : Request). Answered r a) (request_one vars schema tables document h.0 k.0 h.1 k.1) h.2) k.2
+    answered_one k.0 a b (subst (λ (is : Judgement). Answered is a) (judgement_one vars schema tables document h.0 k.0 h.1 k.1) h.2) k.2
 
 pub local_one : (schema tables document vars : List ℕ) (files : Files) → IsOne (LocalWays schema tables document vars files)
 local_one schema tables document vars files =

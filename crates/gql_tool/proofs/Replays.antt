@@ -12,20 +12,20 @@ use Rattle.gql_multipart.specs.Body.{IsBoundary}
 use Rattle.gql_merge.specs.declared.merger.Merger.{Merger}
 use Rattle.gql_merge.specs.declared.state.State.{State}
 use Rattle.gql_merge.specs.Apply.{fresh}
-use Rattle.gql_tool.specs.declared.client.Client.{Client}
-use Rattle.gql_tool.specs.declared.client.ClientRefusal.{ClientRefusal}
-use Rattle.gql_tool.specs.declared.client.ClientRefusal.TheVariants as answer
+use Rattle.gql_client.specs.declared.client.Client.{Client}
+use Rattle.gql_client.specs.declared.stop.ClientRefusal.{ClientRefusal}
+use Rattle.gql_client.specs.declared.stop.ClientRefusal.TheVariants as answer
 use Rattle.gql_tool.specs.declared.hearing.Hearing.{Hearing}
 use Rattle.gql_tool.specs.declared.hearing.Hearing.TheVariants as hearing
-use Rattle.gql_tool.specs.declared.client.Stop.{Stop}
-use Rattle.gql_tool.specs.declared.client.Stop.TheVariants.{Refused}
+use Rattle.gql_client.specs.declared.stop.Stop.{Stop}
+use Rattle.gql_client.specs.declared.stop.Stop.TheVariants.{Refused}
 use Rattle.gql_tool.specs.declared.status.Status.{Status}
 use Rattle.gql_tool.specs.declared.status.Status.TheVariants.{Done, ReadFault, WriteFault, StreamRefused}
 use Rattle.gql_tool.specs.Outcome.{Outcome, Ways}
 use Rattle.gql_tool.specs.Meets.{Meets, MeetsTold}
-use Rattle.gql_tool.specs.Client.{at_byte, Accepts, AcceptsEnd}
-use Rattle.gql_tool.specs.Heard.{Heard, Stands, IsRefused, IsRefusedAtEnd, reason_of}
-use Rattle.gql_tool.specs.Hearing.{EndsAt, StillTells, heard_of, hearing_of}
+use Rattle.gql_client.specs.Client.{at_byte, Accepts, AcceptsEnd}
+use Rattle.gql_client.specs.Heard.{Heard, Stands, IsRefused, IsRefusedAtEnd, reason_of}
+use Rattle.gql_tool.specs.inner.Hearing.{EndsAt, StillTells, heard_of, hearing_of}
 use Rattle.gql_tool.specs.Replay.{budget, merged_line, refused_lines, Tells, body_too_long, HeardWays, ReplayWays}
 use Rattle.gql_tool.proofs.Digits.{decimal_zero}
 use Rattle.gql_tool.proofs.Files.{Meets-more}

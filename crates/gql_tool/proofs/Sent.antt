@@ -1,12 +1,11 @@
 -- Pieces that are put one after the other.
 use Rattle.std.proofs.lemmas.List.{take_all}
-use Rattle.std.proofs.Common.{◌≡◌, arith, length, sym, ap, ◌∙◌, ℕ, List, [], ◌∷◌, ◌++◌, Option, true, false, subst, append_assoc}
+use Rattle.std.proofs.Common.{◌≡◌, append-nil, arith, length, sym, ap, ◌∙◌, ℕ, List, [], ◌∷◌, ◌++◌, Option, true, false, subst, append_assoc}
 use Rattle.std.specs.Io.KnownBytes.{Appends}
 use Rattle.std.proofs.KnownBytes.{Appends-nil}
 use Rattle.gql_io.specs.Told.{AppendsPrefix}
 use Rattle.gql_multipart.specs.Frame.{frame, piece, mark}
 use Rattle.gql_multipart.specs.Framed.{framed, closing}
-use Rattle.gql_tool.proofs.HeroFields.{append-nil}
 
 -- nothing is a prefix
 pub Prefix-nothing : (a : Option (List ℕ)) (bytes : List ℕ) → AppendsPrefix a a bytes

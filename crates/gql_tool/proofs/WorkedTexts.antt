@@ -8,7 +8,8 @@ use Rattle.json.specs.Print.{escape_byte}
 use Rattle.gql_multipart.specs.Frame.{frame}
 use Rattle.gql_tree.proofs.Json.{data_Null, data_Text, data_Object}
 use Rattle.gql_model.specs.Sample.{plain, one_deferred, bubbling, null_item, failing}
-use Rattle.gql_model.specs.Worked.{texts}
+use Rattle.gql_model.specs.Worked.{regions}
+use Rattle.gql_tool.specs.Local.{texts, body}
 
 decimal-0 : decimal 0 ≡ 48 ∷ []
 decimal-0 = decimal_digit 0 (omega arith)
@@ -31,25 +32,25 @@ decimal-37 : decimal 37 ≡ 51 ∷ 55 ∷ []
 unfolding digits
 decimal-37 = refl
 
-pub texts-plain : texts plain ≡ codes "{\"data\":{\"hero\":{\"id\":\"1\"}}}" ∷ []
+pub texts-plain : texts (regions plain) ≡ codes "{\"data\":{\"hero\":{\"id\":\"1\"}}}" ∷ []
 unfolding escape_byte
 texts-plain = simp (data_Object, data_Text) refl
 
-pub texts-one_deferred : texts one_deferred ≡ codes "{\"data\":{\"hero\":{\"id\":\"1\"}},\"hasNext\":true,\"pending\":[{\"id\":\"0\",\"label\":\"D\",\"path\":[\"hero\"]}]}" ∷ codes "{\"completed\":[{\"id\":\"0\"}],\"hasNext\":false,\"incremental\":[{\"data\":{\"name\":\"Luke\"},\"id\":\"0\"}]}" ∷ []
+pub texts-one_deferred : texts (regions one_deferred) ≡ codes "{\"data\":{\"hero\":{\"id\":\"1\"}},\"hasNext\":true,\"pending\":[{\"id\":\"0\",\"label\":\"D\",\"path\":[\"hero\"]}]}" ∷ codes "{\"completed\":[{\"id\":\"0\"}],\"hasNext\":false,\"incremental\":[{\"data\":{\"name\":\"Luke\"},\"id\":\"0\"}]}" ∷ []
 unfolding escape_byte
 texts-one_deferred = simp (data_Object, data_Text, decimal-0) refl
 
-pub length-one_deferred : length (frame (texts one_deferred)) ≡ 305
+pub length-one_deferred : length (body (regions one_deferred)) ≡ 305
 length-one_deferred = ap (λ ts. length (frame ts)) texts-one_deferred
 
-pub texts-bubbling : texts bubbling ≡ codes "{\"data\":{\"hero\":null},\"errors\":[{\"locations\":[{\"column\":13,\"line\":1}],\"message\":\"bang\",\"path\":[\"hero\",\"boom\"]}]}" ∷ []
+pub texts-bubbling : texts (regions bubbling) ≡ codes "{\"data\":{\"hero\":null},\"errors\":[{\"locations\":[{\"column\":13,\"line\":1}],\"message\":\"bang\",\"path\":[\"hero\",\"boom\"]}]}" ∷ []
 unfolding escape_byte
 texts-bubbling = simp (data_Object, data_Null, decimal-1, decimal-13) refl
 
-pub texts-null_item : texts null_item ≡ codes "{\"data\":{\"crew\":null},\"errors\":[{\"locations\":[{\"column\":10,\"line\":1}],\"message\":\"Null in a non-null position\",\"path\":[\"crew\",2,\"name\"]}]}" ∷ []
+pub texts-null_item : texts (regions null_item) ≡ codes "{\"data\":{\"crew\":null},\"errors\":[{\"locations\":[{\"column\":10,\"line\":1}],\"message\":\"Null in a non-null position\",\"path\":[\"crew\",2,\"name\"]}]}" ∷ []
 unfolding escape_byte
 texts-null_item = simp (data_Object, data_Null, decimal-1, decimal-2, decimal-10) refl
 
-pub texts-failing : texts failing ≡ codes "{\"data\":{\"hero\":{\"id\":\"1\"}},\"hasNext\":true,\"pending\":[{\"id\":\"0\",\"label\":\"D\",\"path\":[\"hero\"]}]}" ∷ codes "{\"completed\":[{\"errors\":[{\"locations\":[{\"column\":37,\"line\":1}],\"message\":\"bang\",\"path\":[\"hero\",\"boom\"]}],\"id\":\"0\"}],\"hasNext\":false}" ∷ []
+pub texts-failing : texts (regions failing) ≡ codes "{\"data\":{\"hero\":{\"id\":\"1\"}},\"hasNext\":true,\"pending\":[{\"id\":\"0\",\"label\":\"D\",\"path\":[\"hero\"]}]}" ∷ codes "{\"completed\":[{\"errors\":[{\"locations\":[{\"column\":37,\"line\":1}],\"message\":\"bang\",\"path\":[\"hero\",\"boom\"]}],\"id\":\"0\"}],\"hasNext\":false}" ∷ []
 unfolding escape_byte
 texts-failing = simp (data_Object, data_Text, decimal-0, decimal-1, decimal-37) refl

@@ -2,16 +2,15 @@
 use Rattle.std.specs.Prelude.{◌≡◌, ◌⊎◌, ℕ, ◌+◌, ◌-◌, ◌/◌, true, List, ◌++◌, length, sum_by, Option, None, Some, codes}
 use Rattle.std.specs.Io.KnownBytes.{Appends}
 use Rattle.gql_multipart.specs.Framed.{pieces_of}
+use Rattle.gql_tree.specs.Forest.{Forest}
 use Rattle.gql_io.specs.Files.{Files}
 use Rattle.gql_tool.specs.declared.status.Status.{Status}
 use Rattle.gql_tool.specs.declared.status.Status.TheVariants.{Done, WriteFault, NoMemory, StreamRefused}
-use Rattle.gql_tool.specs.declared.shape.HeroDocument.{HeroDocument}
-use Rattle.gql_tool.specs.declared.tables.HeroTables.{HeroTables}
-use Rattle.gql_tool.specs.declared.client.Client.{Client}
-use Rattle.gql_tool.specs.Client.{counted}
-use Rattle.gql_tool.specs.Heard.{Stands, nothing_heard, IsRefused}
-use Rattle.gql_tool.specs.declared.request.Request.TheVariants.{Built}
-use Rattle.gql_tool.specs.Local.{Judged, body, texts}
+use Rattle.gql_client.specs.declared.client.Client.{Client}
+use Rattle.gql_client.specs.Client.{counted}
+use Rattle.gql_client.specs.Heard.{Stands, nothing_heard, IsRefused}
+use Rattle.gql_tool.specs.Judged.{Executed, Judged}
+use Rattle.gql_tool.specs.Local.{body, texts}
 use Rattle.gql_tool.specs.Replay.{merged_line}
 use Rattle.gql_tool.specs.Words.{Form, LocalForm}
 
@@ -36,37 +35,37 @@ cuts_in cut piece = (length piece + (cut - 1)) / cut
 abbrev pub cuts_of : ℕ → List (List ℕ) → ℕ
 cuts_of cut texts = sum_by (cuts_in cut) (pieces_of true texts)
 
--- the request that the files are, as far as the shelf tells
-abbrev pub Asks : Option Files → (schema tables document vars : List ℕ) → HeroTables → HeroDocument → Type 0
-Asks None schema tables document vars t d = Unit {0}
-Asks (Some files) schema tables document vars t d = (s b c : List ℕ) × (files schema ≡ Some s) × (files tables ≡ Some b) × (files document ≡ Some c) × Judged vars s b c (Built t d)
+-- the request of the files has these regions, as far as the shelf tells
+abbrev pub Asks : Option Files → (schema tables document vars : List ℕ) → Forest → Type 0
+Asks None schema tables document vars f = Unit {0}
+Asks (Some files) schema tables document vars f = (s b c : List ℕ) × (files schema ≡ Some s) × (files tables ≡ Some b) × (files document ≡ Some c) × Judged vars s b c (Executed f)
 
 -- it was fed the body in cuts, and took all of it; behind the body the line of what it merged was written
-pub record TookBody (t : HeroTables) (d : HeroDocument) (cut : ℕ) (c : Client) (sent_before sent : Option (List ℕ)) : Type 0 where
-  pub stands : StandsFor c (body t d)
-  pub cuts : c.cuts ≡ counted (cuts_of cut (texts t d))
-  pub line : Appends sent_before sent (body t d ++ merged_line c.merger.state)
+pub record TookBody (f : Forest) (cut : ℕ) (c : Client) (sent_before sent : Option (List ℕ)) : Type 0 where
+  pub stands : StandsFor c (body f)
+  pub cuts : c.cuts ≡ counted (cuts_of cut (texts f))
+  pub line : Appends sent_before sent (body f ++ merged_line c.merger.state)
 
 -- it took a front of the body
-pub record TookFront (t : HeroTables) (d : HeroDocument) (c : Client) : Type 0 where
+pub record TookFront (f : Forest) (c : Client) : Type 0 where
   pub front : List ℕ
   pub back : List ℕ
-  pub cut : body t d ≡ front ++ back
+  pub cut : body f ≡ front ++ back
   pub stands : StandsFor c front
 
 -- it refused in the body
-pub record RefusedBody (t : HeroTables) (d : HeroDocument) (c : Client) : Type 0 where
+pub record RefusedBody (f : Forest) (c : Client) : Type 0 where
   pub front : List ℕ
   pub back : List ℕ
-  pub cut : body t d ≡ front ++ back
+  pub cut : body f ≡ front ++ back
   pub refused : IsRefused c dash front
 
 -- What the client is by the status, and that the line behind the body is its own: at the end it stands for the body, and in
 -- a fault of the output for a front of it. Where nothing was executed it is what it was. Want of memory alone is free.
-abbrev pub ClientEnds : ((t : HeroTables) (d : HeroDocument) → Type 0) → ℕ → Client → Client → Option (List ℕ) → Option (List ℕ) → Status → Type 0
-ClientEnds Asked cut old new sent_before sent Done = (t : HeroTables) × (d : HeroDocument) × Asked t d × TookBody t d cut new sent_before sent
-ClientEnds Asked cut old new sent_before sent WriteFault = (new ≡ old) ⊎ ((t : HeroTables) × (d : HeroDocument) × Asked t d × TookFront t d new)
-ClientEnds Asked cut old new sent_before sent StreamRefused = (t : HeroTables) × (d : HeroDocument) × Asked t d × RefusedBody t d new
+abbrev pub ClientEnds : (Forest → Type 0) → ℕ → Client → Client → Option (List ℕ) → Option (List ℕ) → Status → Type 0
+ClientEnds Asked cut old new sent_before sent Done = (f : Forest) × Asked f × TookBody f cut new sent_before sent
+ClientEnds Asked cut old new sent_before sent WriteFault = (new ≡ old) ⊎ ((f : Forest) × Asked f × TookFront f new)
+ClientEnds Asked cut old new sent_before sent StreamRefused = (f : Forest) × Asked f × RefusedBody f new
 ClientEnds Asked cut old new sent_before sent NoMemory = Unit {0}
 ClientEnds Asked cut old new sent_before sent _ = new ≡ old
 

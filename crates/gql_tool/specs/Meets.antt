@@ -9,8 +9,7 @@ use Rattle.gql_tool.specs.Outcome.{Outcome, Ways, names, file_limit}
 use Rattle.gql_tool.specs.Local.{LocalWays}
 use Rattle.gql_tool.specs.Replay.{ReplayWays, IsReplayed}
 use Rattle.gql_tool.specs.Served.{IsServed}
-use Rattle.gql_tool.specs.declared.shape.HeroDocument.{HeroDocument}
-use Rattle.gql_tool.specs.declared.tables.HeroTables.{HeroTables}
+use Rattle.gql_tree.specs.Forest.{Forest}
 use Rattle.gql_tool.specs.Words.{Form, LocalForm, ReplayForm}
 
 -- a right outcome's status, and all of its bytes
@@ -72,30 +71,6 @@ abbrev pub NoneLeft : Option (List ℕ) → Option (List ℕ) → Type 0
 NoneLeft None now = ⊤
 NoneLeft (Some bytes) now = now ≡ Some []
 
--- those that end it at a file
-abbrev pub IsStop : Status → Type 0
-IsStop ReadFault = ⊤
-IsStop WriteFault = ⊤
-IsStop NoMemory = ⊤
-IsStop NoFile = ⊤
-IsStop TooLong = ⊤
-IsStop _ = ⊥
-
--- those that end it behind its files
-abbrev pub IsWork : Status → Type 0
-IsWork Refused = ⊤
-IsWork WriteFault = ⊤
-IsWork NoMemory = ⊤
-IsWork StreamRefused = ⊤
-IsWork _ = ⊥
-
--- those that end a request that is executed
-abbrev pub IsDelivery : Status → Type 0
-IsDelivery WriteFault = ⊤
-IsDelivery NoMemory = ⊤
-IsDelivery StreamRefused = ⊤
-IsDelivery _ = ⊥
-
 -- those of `local` that are left where the files are there and nothing outside fails
 abbrev pub IsJudged : Status → Type 0
 IsJudged Done = ⊤
@@ -123,33 +98,14 @@ HasFiles (Some files) schema tables document = HasFile files schema × HasFile f
 abbrev pub Ready : Option Files → Option (List ℕ) → Option Form → Type 0
 Ready files input None = ⊥
 Ready files input (Some (LocalForm schema tables document vars workers cut)) = HasFiles files schema tables document
-Ready files input (Some (ReplayForm boundary)) = (t : HeroTables) × (d : HeroDocument) × IsServed t d boundary input
+Ready files input (Some (ReplayForm boundary)) = (f : Forest) × IsServed f boundary input
 
 -- the statuses that are left then, where nothing outside fails
 abbrev pub IsComplete : Option Form → Status → Type 0
 IsComplete (Some (ReplayForm boundary)) status = IsEndOfBody status
 IsComplete _ status = IsJudged status
 
--- the words are the command `replay`, and its input is the body of this request
-abbrev pub Serves : HeroTables → HeroDocument → Option (List ℕ) → Option Form → Type 0
-Serves t d input (Some (ReplayForm boundary)) = IsServed t d boundary input
-Serves t d input _ = ⊥
-
--- the file has these bytes, where the shelf tells
-abbrev pub Finds : Option Files → List ℕ → List ℕ → Type 0
-Finds None name bytes = ⊤
-Finds (Some files) name bytes = files name ≡ Some bytes
-
--- what the file itself decides: it is missing or too long
-abbrev pub FileStops : Option (List ℕ) → List ℕ → Ways
-FileStops None name o = o ≡ names NoFile (codes "no such file: ") name
-FileStops (Some bytes) name o = (file_limit < length bytes) × (o ≡ names TooLong (codes "too long: ") name)
-
--- the command ends at this file, whatever it would have done with it
-abbrev pub StopsAt : Option Files → List ℕ → Status → Option (List ℕ) → Option (List ℕ) → Type 0
-StopsAt told name status old new = MeetsTold told (λ files. FileStops (files name) name) status old new
-
--- the status of a call that ended early or went through
-abbrev pub ended : {T : Type 0} → Result T Status → Status
-ended (Ok x) = Done
-ended (Err status) = status
+-- the words are the command `replay`, and its input is the body of these regions
+abbrev pub Serves : Forest → Option (List ℕ) → Option Form → Type 0
+Serves f input (Some (ReplayForm boundary)) = IsServed f boundary input
+Serves f input _ = ⊥

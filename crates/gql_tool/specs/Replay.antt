@@ -8,7 +8,7 @@ use Rattle.gql_merge.specs.Same.{IsTypedState}
 use Rattle.gql_merge.specs.Report.{report_of}
 use Rattle.gql_tool.specs.declared.status.Status.{Status}
 use Rattle.gql_tool.specs.declared.status.Status.TheVariants.{Done, ReadFault, WriteFault, NoMemory, StreamRefused, TooLong}
-use Rattle.gql_tool.specs.Client.{at_byte, Accepts, Refuses, AcceptsEnd, RefusesEnd}
+use Rattle.gql_client.specs.Client.{at_byte, Accepts, Refuses, AcceptsEnd, RefusesEnd}
 use Rattle.gql_tool.specs.Outcome.{Outcome, Ways}
 
 -- the most bytes of a body that are heard

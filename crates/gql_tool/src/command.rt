@@ -8,17 +8,18 @@ ghost use Rattle.gql_tool.specs.Words.{form_of};
 ghost use Rattle.gql_tool.specs.Outcome.{names, file_limit};
 ghost use Rattle.gql_tool.specs.Local.{LocalWays};
 ghost use Rattle.gql_tool.specs.LocalClient.{IsNew, Asks, ClientEnds, ClientOf};
-ghost use Rattle.gql_tool.specs.Meets.{Meets, MeetsTold, Answers, IsAnswer, IsStop, IsJudged, IsComplete, IsEnd, ReadsFiles, ReadsInput, NoneLeft, HasFiles, Ready, Serves, Finds, StopsAt, ended};
+ghost use Rattle.gql_tool.specs.Meets.{Meets, MeetsTold, Answers, IsAnswer, IsJudged, IsComplete, IsEnd, ReadsFiles, ReadsInput, NoneLeft, HasFiles, Ready, Serves};
 ghost use Rattle.gql_tool.specs.Served.{MergedWay};
-ghost use Rattle.gql_tool.specs.declared.shape.HeroDocument.{HeroDocument as DocumentOf};
-ghost use Rattle.gql_tool.specs.declared.tables.HeroTables.{HeroTables as TablesOf};
+ghost use Rattle.gql_tree.specs.Forest.{Forest};
+ghost use Rattle.gql_tool.specs.inner.Steps.{IsStop, Finds, StopsAt, Requests};
+ghost use Rattle.gql_tool.specs.hero.Hero.{Runs, judgement_of};
 
 use crate::Status;
-use crate::client::Client;
 use crate::hearing::replay;
 use crate::local_words::LocalWords;
-use crate::request::{answer, request_of};
+use crate::request::{Request, answer, request_of};
 use crate::words::{Command, parse};
+use gql_client::Client;
 use gql_io::{Failed, Shelf, ShelfRefusal, Sink, Source};
 use gql_tree::{Bytes, Text};
 use std::alloc::Global;
@@ -73,23 +74,22 @@ fn file<S: Shelf, O: Sink>(
     }
 }
 
-/// Reads the files in order, and answers the request that they are.
-fn read_and_answer<S: Shelf, O: Sink>(
+/// Reads the files in order, and judges the request that they are.
+fn requested<S: Shelf, O: Sink>(
     alloc: Global,
     words: &LocalWords<'_>,
     shelf: &mut S,
     output: &mut O,
-    client: &mut Client,
-) -> Result<(), Status>
-    requires { IsNew client.old }
-    ensures meets { MeetsTold (S.files shelf.old) (LocalWays words.now.schema.now words.now.tables.now words.now.document.now words.now.vars.now)
-        (ended result) (O.sent output.old) (O.sent output.new) }
-    ensures client { ClientEnds (Asks (S.files shelf.old) words.now.schema.now words.now.tables.now words.now.document.now words.now.vars.now) words.now.cut
-        client.old client.new (O.sent output.old) (O.sent output.new) (ended result) }
-    ensures statuses { IsAnswer (ended result) }
+) -> Result<Request, Status>
+    ensures asks { IfOk result (λ request. Requests (S.files shelf.old) words.now.schema.now words.now.tables.now words.now.document.now words.now.vars.now (judgement_of request)) }
+    ensures runs { IfOk result Runs }
+    ensures kept { OnOk result (Keeps (O.sent output.old) (O.sent output.new)) }
+    ensures stops { IfErr result (λ status. MeetsTold (S.files shelf.old) (LocalWays words.now.schema.now words.now.tables.now words.now.document.now words.now.vars.now)
+        status (O.sent output.old) (O.sent output.new)) }
+    ensures statuses { IfErr result IsStop }
     ensures same { S.files shelf.new ≡ S.files shelf.old }
-    ensures read_fault { Counts (S.faults shelf.old) (S.faults shelf.new) (ended result ≡ Status.ReadFault) }
-    ensures write_fault { Counts (O.faults output.old) (O.faults output.new) (ended result ≡ Status.WriteFault) }
+    ensures read_fault { Counts (S.faults shelf.old) (S.faults shelf.new) (IsErrOf result Status.ReadFault) }
+    ensures write_fault { Counts (O.faults output.old) (O.faults output.new) (IsErrOf result Status.WriteFault) }
 {
     let schema = file(alloc, words.schema, shelf, output)?;
     let tables = file(alloc, words.tables, shelf, output)?;
@@ -101,16 +101,7 @@ fn read_and_answer<S: Shelf, O: Sink>(
         tables.as_slice(),
         document.as_slice(),
     )?;
-    answer(alloc, &request, words.cut, output, client)
-}
-
-fn status_of(end: Result<(), Status>) -> Status
-    ensures { result ≡ ended end }
-{
-    match end {
-        Ok(()) => Status::Done,
-        Err(status) => status,
-    }
+    Ok(request)
 }
 
 /// The command `local`: the request of three files is answered on this machine alone, and merged by the
@@ -145,7 +136,10 @@ pub fn local<S: Shelf, O: Sink>(
 
     ensures same { S.files shelf.new ≡ S.files shelf.old }
 {
-    status_of(read_and_answer(alloc, words, shelf, output, client))
+    match requested(alloc, words, shelf, output) {
+        Ok(request) => answer(alloc, &request, words.cut, output, client),
+        Err(status) => status,
+    }
 }
 
 /// All that the program does. The client is as `Client::new` gives it for the boundary `-`; `local` feeds
@@ -170,8 +164,8 @@ pub fn tool<S: Shelf, I: Source, O: Sink>(
     // The status, what is written and what the client is, where the one that is read tells.
     ensures answers { Answers (S.files shelf.old) (I.left input.old) (form_of words.now) result (O.sent output.old) (O.sent output.new) }
     ensures client { ClientOf (S.files shelf.old) (form_of words.now) client.old client.new (O.sent output.old) (O.sent output.new) result }
-    ensures merges { (t : TablesOf) (d : DocumentOf) → Serves t d (I.left input.old) (form_of words.now)
-        → Meets (MergedWay t d) result (O.sent output.old) (O.sent output.new) }
+    ensures merges { (f : Forest) → Serves f (I.left input.old) (form_of words.now)
+        → Meets (MergedWay f) result (O.sent output.old) (O.sent output.new) }
     ensures complete { Ready (S.files shelf.old) (I.left input.old) (form_of words.now)
         → ¬ Rose (S.faults shelf.old) (S.faults shelf.new) → ¬ Rose (I.faults input.old) (I.faults input.new)
         → ¬ Rose (O.faults output.old) (O.faults output.new) → IsComplete (form_of words.now) result }

@@ -5,13 +5,13 @@ ghost use Rattle.gql_io.specs.Faults.{Counts};
 ghost use Rattle.gql_io.specs.Told.{Puts};
 ghost use Rattle.gql_payload.specs.PayloadText.{payload_text};
 ghost use Rattle.gql_multipart.specs.Framed.{framed};
-ghost use Rattle.gql_tool.specs.Handed.{IsWritten, Handed, Hears, StopsIn, CountsOn};
+ghost use Rattle.gql_tool.specs.inner.Handed.{IsWritten, Handed, Hears, StopsIn, CountsOn};
 ghost use Rattle.gql_tool.specs.LocalClient.{cuts_in};
-ghost use Rattle.gql_tool.specs.Stages.{is_first, is_last};
-ghost use Rattle.gql_tool.specs.declared.client.ClientRefusal.TheVariants as answer;
+ghost use Rattle.gql_tool.specs.inner.Stages.{is_first, is_last};
+ghost use Rattle.gql_client.specs.declared.stop.ClientRefusal.TheVariants as answer;
 
 use crate::Status;
-use crate::client::{Client, ClientRefusal};
+use gql_client::{Client, ClientRefusal};
 use gql_io::Sink;
 use gql_multipart::frame;
 use gql_payload::encode;
@@ -65,29 +65,6 @@ fn feed_in_cuts(piece: &[u8], cut: usize, client: &mut Client) -> Result<(), Cli
     Ok(())
 }
 
-/// The status of a client's refusal.
-fn status_of(refusal: ClientRefusal) -> Status
-    ensures refused { result ≡ Status.StreamRefused → refusal ≡ answer.Refused }
-    ensures statuses { (result ≡ Status.StreamRefused) ⊎ (result ≡ Status.NoMemory) }
-{
-    match refusal {
-        ClientRefusal::Refused => Status::StreamRefused,
-        ClientRefusal::NoMemory => Status::NoMemory,
-    }
-}
-
-/// Puts a piece at once.
-fn put<O: Sink>(piece: &[u8], output: &mut O) -> Result<(), Status>
-    ensures sent { Puts (O.sent output.old) (O.sent output.new) piece.now result }
-    ensures statuses { IfErr result (λ status. status ≡ Status.WriteFault) }
-    ensures write_fault { Counts (O.faults output.old) (O.faults output.new) (IsErrOf result Status.WriteFault) }
-{
-    match output.put(piece) {
-        Ok(()) => Ok(()),
-        Err(_) => Err(Status::WriteFault),
-    }
-}
-
 /// Feeds a piece to the client in cuts.
 fn feed(piece: &[u8], cut: usize, client: &mut Client) -> Result<(), Status>
     requires { 0 < cut }
@@ -98,7 +75,8 @@ fn feed(piece: &[u8], cut: usize, client: &mut Client) -> Result<(), Status>
 {
     match feed_in_cuts(piece, cut, client) {
         Ok(()) => Ok(()),
-        Err(refusal) => Err(status_of(refusal)),
+        Err(ClientRefusal::Refused) => Err(Status::StreamRefused),
+        Err(ClientRefusal::NoMemory) => Err(Status::NoMemory),
     }
 }
 
@@ -117,6 +95,6 @@ pub(crate) fn hand_out<O: Sink>(
     ensures write_fault { Counts (O.faults output.old) (O.faults output.new) (IsErrOf result Status.WriteFault) }
 {
     let piece = piece_of(alloc, payload, stage)?;
-    put(piece.as_slice(), output)?;
+    output.put(piece.as_slice())?;
     feed(piece.as_slice(), cut, client)
 }

@@ -3,17 +3,16 @@
 ghost use Rattle.std.specs.Prelude.{◌≡◌, ◌+◌, ◌-◌, ◌<◌, ◌≤◌, ◌≢◌, ◌⊎◌, ◌++◌, length, List, ℕ, Some, IfOk, IfErr, IsErrOf};
 ghost use Rattle.std.specs.Io.KnownBytes.{Keeps};
 ghost use Rattle.gql_io.specs.Faults.{Counts};
-ghost use Rattle.gql_tool.specs.Heard.{Stands, nothing_heard};
-ghost use Rattle.gql_tool.specs.Hearing.{EndsAt, StillTells, heard_of, hearing_of};
+ghost use Rattle.gql_client.specs.Heard.{Stands, nothing_heard};
+ghost use Rattle.gql_tool.specs.inner.Hearing.{EndsAt, StillTells, heard_of, hearing_of};
 ghost use Rattle.gql_tool.specs.Meets.{Meets, MeetsTold, NoneLeft};
 ghost use Rattle.gql_tool.specs.Served.{IsServed, MergedWay};
-ghost use Rattle.gql_tool.specs.declared.shape.HeroDocument.{HeroDocument as DocumentOf};
-ghost use Rattle.gql_tool.specs.declared.tables.HeroTables.{HeroTables as TablesOf};
+ghost use Rattle.gql_tree.specs.Forest.{Forest};
 ghost use Rattle.gql_tool.specs.Replay.{budget, HeardWays, ReplayWays, IsReplayed};
 
 use crate::Status;
-use crate::client::{Client, ClientRefusal};
 use crate::lines::{put_and_end, put_lines};
+use gql_client::{Client, ClientRefusal};
 use gql_io::{Sink, Source};
 use gql_multipart::FrameRefusal;
 use std::alloc::Global;
@@ -149,8 +148,8 @@ pub fn replay<I: Source, O: Sink>(
     ensures write_fault { Counts (O.faults output.old) (O.faults output.new) (result ≡ Status.WriteFault) }
 
     // The body that `local` writes is merged to the defined response.
-    ensures merges { (t : TablesOf) (d : DocumentOf) → IsServed t d boundary.now (I.left input.old)
-        → Meets (MergedWay t d) result (O.sent output.old) (O.sent output.new) }
+    ensures merges { (f : Forest) → IsServed f boundary.now (I.left input.old)
+        → Meets (MergedWay f) result (O.sent output.old) (O.sent output.new) }
 {
     match Client::new(alloc, boundary) {
         Ok(client) => {

@@ -1,25 +1,12 @@
-//! Laws of the right outcomes, and of the requests that are built.
+//! Laws of the right outcomes, and worked bodies.
 
-ghost use Rattle.std.specs.Prelude.{◌≡◌, ℕ, List, [], Some};
-ghost use Rattle.gql_tree.specs.declared.Value.{Value};
-ghost use Rattle.gql_tree.specs.declared.Fault.{Fault};
-ghost use Rattle.gql_tree.specs.FirstPayloads.{value_of};
-ghost use Rattle.gql_tree.specs.Same.{SameFlat};
-ghost use Rattle.gql_tree.specs.Merged.{IsMerged};
-ghost use Rattle.gql_model.specs.Plain.{plain, kept};
-ghost use Rattle.gql_tool.specs.declared.shape.HeroDocument.{HeroDocument};
-ghost use Rattle.gql_model.specs.Sample as sample;
-ghost use Rattle.gql_model.specs.declared.syntax.Document.{Document};
-ghost use Rattle.gql_tool.specs.Shape.{hero_of};
-ghost use Rattle.gql_tool.specs.Written.{IsWritten, plain_hero, deferred_hero, bubbling_hero};
-ghost use Rattle.gql_tool.specs.declared.tables.HeroTables.{HeroTables};
-ghost use Rattle.gql_tool.specs.declared.request.Request.TheVariants.{Built};
+ghost use Rattle.std.specs.Prelude.{◌≡◌, ℕ, List, [], ◌∷◌, codes, length};
+ghost use Rattle.gql_model.specs.Sample.{plain, one_deferred, bubbling, null_item, failing};
+ghost use Rattle.gql_model.specs.Worked.{regions};
 ghost use Rattle.gql_io.specs.Files.{Files};
 ghost use Rattle.gql_tool.specs.Outcome.{Outcome};
-ghost use Rattle.gql_tool.specs.Local.{Judged, regions, LocalWays};
-ghost use Rattle.gql_tool.specs.Operation.{nodes_of};
+ghost use Rattle.gql_tool.specs.Local.{texts, body, LocalWays};
 ghost use Rattle.gql_tool.specs.Replay.{ReplayWays};
-ghost use Rattle.gql_tool.specs.Service.{service, query};
 
 /// For the same words and files one outcome of `local` is right.
 pub fn local_has_one_outcome()
@@ -32,29 +19,27 @@ pub fn replay_has_one_outcome()
     ensures { (boundary input : List ℕ) (a b : Outcome) → ReplayWays boundary input a → ReplayWays boundary input b → a ≡ b }
 {}
 
-/// Where no deferred piece of a request fails, what a client has in the end is the response of plain
-/// execution, in which `@defer` is taken as absent: the same data, and of the errors those at places that
-/// stand in it.
-pub fn a_response_without_failures_is_plain()
-    ensures data { (vars schema tables document : List ℕ) (t : HeroTables) (d : HeroDocument) (value : Value) (faults : List Fault)
-        → Judged vars schema tables document (Built t d)
-        → IsMerged (regions t d) value faults []
-        → SameFlat value (value_of (plain (service t) (nodes_of d) query).outcome) }
-    ensures errors { (vars schema tables document : List ℕ) (t : HeroTables) (d : HeroDocument) (value : Value) (faults : List Fault)
-        → Judged vars schema tables document (Built t d)
-        → IsMerged (regions t d) value faults []
-        → (let r = plain (service t) (nodes_of d) query in kept value faults ≡ kept (value_of r.outcome) r.faults) }
-{}
+/// The texts of the payloads of worked operations, as they were written by hand.
+pub fn worked_texts()
+    // { hero { id } }
+    ensures plain { texts (regions plain) ≡ codes "{\"data\":{\"hero\":{\"id\":\"1\"}}}" ∷ [] }
 
-/// The documents that are executed are the queries of the hero, written as documents.
-pub fn executed_documents()
-    ensures only { (it : Document) → (hero : HeroDocument) → hero_of it ≡ Some hero → IsWritten it hero }
-    ensures all { (it : Document) → (hero : HeroDocument) → IsWritten it hero → hero_of it ≡ Some hero }
-{}
+    // { hero { id ... @defer(label:"D") { name } } }
+    ensures deferred { texts (regions one_deferred)
+        ≡ codes "{\"data\":{\"hero\":{\"id\":\"1\"}},\"hasNext\":true,\"pending\":[{\"id\":\"0\",\"label\":\"D\",\"path\":[\"hero\"]}]}"
+        ∷ codes "{\"completed\":[{\"id\":\"0\"}],\"hasNext\":false,\"incremental\":[{\"data\":{\"name\":\"Luke\"},\"id\":\"0\"}]}" ∷ [] }
+    ensures deferred_body { length (body (regions one_deferred)) ≡ 305 }
 
-/// The operations that worked queries of the hero are.
-pub fn worked_documents()
-    ensures plain { nodes_of plain_hero ≡ sample.plain }
-    ensures deferred { nodes_of deferred_hero ≡ sample.one_deferred }
-    ensures bubbling { nodes_of bubbling_hero ≡ sample.bubbling }
+    // { hero { id boom ... @defer { name } } }
+    ensures bubbled { texts (regions bubbling)
+        ≡ codes "{\"data\":{\"hero\":null},\"errors\":[{\"locations\":[{\"column\":13,\"line\":1}],\"message\":\"bang\",\"path\":[\"hero\",\"boom\"]}]}" ∷ [] }
+
+    // { crew { name } }
+    ensures null_item { texts (regions null_item)
+        ≡ codes "{\"data\":{\"crew\":null},\"errors\":[{\"locations\":[{\"column\":10,\"line\":1}],\"message\":\"Null in a non-null position\",\"path\":[\"crew\",2,\"name\"]}]}" ∷ [] }
+
+    // { hero { id ... @defer(label:"D") { boom } } }: the deferred piece fails, and its error is in its completed record alone
+    ensures failing { texts (regions failing)
+        ≡ codes "{\"data\":{\"hero\":{\"id\":\"1\"}},\"hasNext\":true,\"pending\":[{\"id\":\"0\",\"label\":\"D\",\"path\":[\"hero\"]}]}"
+        ∷ codes "{\"completed\":[{\"errors\":[{\"locations\":[{\"column\":37,\"line\":1}],\"message\":\"bang\",\"path\":[\"hero\",\"boom\"]}],\"id\":\"0\"}],\"hasNext\":false}" ∷ [] }
 {}

@@ -8,38 +8,25 @@
 //! feeds it to the client in cuts (`specs/LocalClient.antt` says what the client is then), and `lines`
 //! writes what the client merged.
 //!
-//! What is still built for one shape of request alone stands in modules that move out later:
-//! `shape` says which documents are executed (`specs/Shape.antt`, `specs/Operation.antt`), `tables` reads the
-//! tables (`specs/HeroTables.antt`), `region` runs leaves, `delivery` makes payloads, and `deliver` hands them
-//! out one by one. That they are the payloads of the general definitions of execution is proved in
-//! `proofs/HeroPayloads.antt`, for the contract of `deliver`.
+//! Which requests are executed, and how, is the module `hero`, for one shape of request alone: judging a request asks it for
+//! the regions that the request has (`specs/Judged.antt`), and all other clauses speak of regions.
 #![tactic(auto)]
 
-mod client;
 mod command;
-mod deliver;
-mod delivery;
 mod handing;
 mod hearing;
+mod hero;
 mod laws;
 mod lines;
 mod local_words;
-mod region;
 mod request;
-mod shape;
 mod status;
-mod tables;
-#[cfg(test)]
-mod tests;
 mod words;
 
-pub use client::{Client, ClientRefusal};
 pub use command::{local, tool};
 pub use hearing::replay;
-pub use laws::{
-    a_response_without_failures_is_plain, executed_documents, local_has_one_outcome,
-    replay_has_one_outcome, worked_documents,
-};
+pub use hero::laws::{a_response_without_failures_is_plain, executed_documents, worked_documents};
+pub use hero::tables::worked_tables;
+pub use laws::{local_has_one_outcome, replay_has_one_outcome, worked_texts};
 pub use local_words::LocalWords;
 pub use status::Status;
-pub use tables::worked_tables;

@@ -3,13 +3,13 @@
 ghost use Rattle.std.specs.Prelude.{◌≡◌, ◌⊎◌, IfOk, OnOk, IsErrOf};
 ghost use Rattle.gql_io.specs.Faults.{Counts};
 ghost use Rattle.gql_merge.specs.Same.{IsTypedState};
-ghost use Rattle.gql_tool.specs.Handed.{PutsLine};
-ghost use Rattle.gql_tool.specs.Heard.{reason_of};
+ghost use Rattle.gql_tool.specs.inner.Handed.{PutsLine};
+ghost use Rattle.gql_client.specs.Heard.{reason_of};
 ghost use Rattle.gql_tool.specs.Meets.{Meets};
 ghost use Rattle.gql_tool.specs.Replay.{lines_of, merged_line, Tells};
 
 use crate::Status;
-use crate::client::Client;
+use gql_client::Client;
 use gql_io::Sink;
 use gql_tree::{NoMemory, Text};
 use std::alloc::Global;
@@ -34,10 +34,8 @@ pub(crate) fn put_merged_line<O: Sink>(
     ensures write_fault { Counts (O.faults output.old) (O.faults output.new) (IsErrOf result Status.WriteFault) }
 {
     let line = merged_line(alloc, client)?;
-    match output.put(line.as_str().as_bytes()) {
-        Ok(()) => Ok(()),
-        Err(_) => Err(Status::WriteFault),
-    }
+    output.put(line.as_str().as_bytes())?;
+    Ok(())
 }
 
 /// What is written of a client.
@@ -58,7 +56,7 @@ fn lines(alloc: Global, client: &Client) -> Result<Text, NoMemory>
 
 /// Writes bytes, and ends with this status.
 pub(crate) fn put_and_end<O: Sink>(bytes: &[u8], status: Status, output: &mut O) -> Status
-    requires { (status ≡ Status.Done) ⊎ ((status ≡ Status.StreamRefused) ⊎ (status ≡ Status.TooLong)) }
+    requires { (status ≡ Status.Done) ⊎ ((status ≡ Status.Refused) ⊎ ((status ≡ Status.StreamRefused) ⊎ (status ≡ Status.TooLong))) }
     ensures meets { Meets (λ o. o ≡ record { status = status; bytes = bytes.now }) result (O.sent output.old) (O.sent output.new) }
     ensures statuses { (result ≡ status) ⊎ (result ≡ Status.WriteFault) }
     ensures write_fault { Counts (O.faults output.old) (O.faults output.new) (result ≡ Status.WriteFault) }

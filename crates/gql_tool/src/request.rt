@@ -1,24 +1,25 @@
 //! What follows the reading of the files: the request that they are is executed or refused.
 
-ghost use Rattle.std.specs.Prelude.{◌≡◌, ◌<◌, None, Some, Ok, Err, IfOk, IfErr, IfSome, IsErr, IsErrOf, IsUtf8, bytes_eq};
+ghost use Rattle.std.specs.Prelude.{◌≡◌, ◌⊎◌, ◌<◌, None, IfOk, IfErr, IsErrOf};
 ghost use Rattle.gql_io.specs.Faults.{Counts};
-ghost use Rattle.gql_tool.specs.Local.{schema_text, built, nowhere, syntax_message, place_of, lexer_place, refused_at, Parses, Judged, Answered};
-ghost use Rattle.gql_doc.specs.declared.refusal.ParseRefusal.TheVariants as refusal;
+ghost use Rattle.gql_doc.specs.Refusals.{parse_spot};
+ghost use Rattle.gql_tool.specs.Outcome.{Outcome};
+ghost use Rattle.gql_tool.specs.Judged.{Parses, Judged, Executed};
+ghost use Rattle.gql_tool.specs.Local.{spot_or_zero, syntax_message, refused, Answered};
 ghost use Rattle.gql_tool.specs.LocalClient.{IsNew, ClientEnds};
-ghost use Rattle.gql_tool.specs.Meets.{Meets, IsWork, IsDelivery, ended};
-ghost use Rattle.gql_tool.specs.Shape.{hero_of};
-ghost use Rattle.gql_tool.specs.HeroTables.{tables_in};
-ghost use Rattle.gql_tool.specs.Hero.{EachOnce, RefStands, IsPlaced, TablesFit, CanRun, answer_of};
+ghost use Rattle.gql_tool.specs.Meets.{Meets};
+ghost use Rattle.gql_tool.specs.inner.Steps.{IsWork, IsDelivery, ended};
+ghost use Rattle.gql_tool.specs.hero.Built.{built, regions_of};
+ghost use Rattle.gql_tool.specs.hero.Hero.{IsOf, CanRun, Runs, request_of, judgement_of};
 
 use crate::Status;
-use crate::client::Client;
-use crate::deliver::deliver;
-use crate::lines::put_merged_line;
-use crate::shape::{HeroDocument, hero_of};
-use crate::tables::{HeroTables, read_tables};
+use crate::hero::deliver::deliver;
+use crate::hero::request::{HeroRequest, built};
+use crate::lines::{put_and_end, put_merged_line};
+use crate::status::ended;
+use gql_client::Client;
 use gql_doc::{ParseRefusal, parse};
 use gql_io::Sink;
-use gql_lex::LexRefusal;
 use gql_model::Document;
 use gql_multipart::frame;
 use gql_payload::encode;
@@ -35,55 +36,7 @@ pub(crate) enum Request {
     /// This build doesn't execute it.
     NotBuilt,
     /// This build executes it.
-    Built(HeroTables, HeroDocument),
-}
-
-/// The one schema that is built.
-pub(crate) const SCHEMA: &[u8] =
-    b"type Query { hero: Person crew: [Person!] cast: [Person] none: [Person] }\ntype Person { id: ID! name: String! age: Int boom: String!\n  nick(upper: Boolean = false): String friends: [Person!]! rival: Person }\n";
-
-fn is_built_schema(schema: &[u8]) -> bool
-    ensures { result ≡ bytes_eq schema.now schema_text }
-{
-    schema == SCHEMA
-}
-
-/// The tables and the document of a request, where this build executes it.
-fn built(
-    alloc: Global,
-    vars: &str,
-    schema: &[u8],
-    tables: &[u8],
-    document: &Document,
-) -> Result<Option<(HeroTables, HeroDocument)>, NoMemory>
-    ensures { IfOk result (λ request. request ≡ built vars.now schema.now tables.now document.now) }
-{
-    if vars != "-" || !is_built_schema(schema) {
-        return Ok(None);
-    }
-    let Some(tables) = read_tables(alloc, tables)? else {
-        return Ok(None);
-    };
-    let Some(hero) = hero_of(alloc, document)? else {
-        return Ok(None);
-    };
-    Ok(Some((tables, hero)))
-}
-
-/// What a request with this document is.
-fn with_document(
-    alloc: Global,
-    vars: &str,
-    schema: &[u8],
-    tables: &[u8],
-    document: &Document,
-) -> Result<Request, NoMemory>
-    ensures { IfOk result (λ request. request ≡ answer_of (built vars.now schema.now tables.now document.now)) }
-{
-    match built(alloc, vars, schema, tables, document)? {
-        Some((tables, hero)) => Ok(Request::Built(tables, hero)),
-        None => Ok(Request::NotBuilt),
-    }
+    Built(HeroRequest),
 }
 
 /// What the parser makes of a text; it fails where there is no memory.
@@ -96,6 +49,22 @@ fn parsed(alloc: Global, text: &str) -> Result<Result<Document, ParseRefusal>, N
     }
 }
 
+/// What a request with this document is.
+fn with_document(
+    alloc: Global,
+    vars: &str,
+    schema: &[u8],
+    tables: &[u8],
+    document: &Document,
+) -> Result<Request, NoMemory>
+    ensures { IfOk result (λ request. request ≡ request_of (built vars.now schema.now tables.now document.now)) }
+{
+    match built(alloc, vars, schema, tables, document)? {
+        Some(request) => Ok(Request::Built(request)),
+        None => Ok(Request::NotBuilt),
+    }
+}
+
 /// What a request is whose document is UTF-8.
 fn with_text(
     alloc: Global,
@@ -104,7 +73,8 @@ fn with_text(
     tables: &[u8],
     text: &str,
 ) -> Result<Request, NoMemory>
-    ensures { IfOk result (λ request. Judged vars.now schema.now tables.now text.now request) }
+    ensures judged { IfOk result (λ request. Judged vars.now schema.now tables.now text.now (judgement_of request)) }
+    ensures built { IfOk result (IsOf vars.now schema.now tables.now text.now) }
 {
     match parsed(alloc, text)? {
         Ok(document) => with_document(alloc, vars, schema, tables, &document),
@@ -120,8 +90,8 @@ pub(crate) fn request_of(
     tables: &[u8],
     document: &[u8],
 ) -> Result<Request, NoMemory>
-    ensures judged { IfOk result (λ request. Judged vars.now schema.now tables.now document.now request) }
-    ensures runs { IfOk result CanRun }
+    ensures judged { IfOk result (λ request. Judged vars.now schema.now tables.now document.now (judgement_of request)) }
+    ensures runs { IfOk result Runs }
 {
     match std::str::from_utf8(document) {
         Ok(text) => with_text(alloc, vars, schema, tables, text),
@@ -131,72 +101,34 @@ pub(crate) fn request_of(
 
 // ---- refusals
 
-/// The place of a fault that has none.
-fn nowhere() -> Spot
-    ensures { result ≡ nowhere }
+/// The place of an error, which has line and column 0 where it has none.
+fn spot_or_zero(spot: Option<Spot>) -> Spot
+    ensures { result ≡ spot_or_zero spot }
 {
-    Spot { line: 0, column: 0 }
-}
-
-/// What is said of something that is no token.
-fn lexer_message(fault: LexRefusal) -> &'static str
-    ensures { result.now ≡ syntax_message (refusal.Lex fault) }
-{
-    match fault {
-        LexRefusal::BadCharacter(_) => "Syntax: BadCharacter",
-        LexRefusal::BadEscape(_) => "Syntax: BadEscape",
-        LexRefusal::OpenString(_) => "Syntax: OpenString",
-        LexRefusal::BadNumber(_) => "Syntax: BadNumber",
-        LexRefusal::FloatToken(_) => "Syntax: FloatToken",
+    match spot {
+        Some(spot) => spot,
+        None => Spot { line: 0, column: 0 },
     }
 }
 
 /// What is said of a text that is no document.
-fn syntax_message(refusal: ParseRefusal) -> &'static str
-    ensures { result.now ≡ syntax_message refusal }
+fn syntax_message(alloc: Global, refusal: ParseRefusal) -> Result<Text, NoMemory>
+    ensures { IfOk result (λ text. text ≡ syntax_message refusal) }
 {
-    match refusal {
-        ParseRefusal::TooLong => "Syntax: TooLong",
-        ParseRefusal::Lex(fault) => lexer_message(fault),
-        ParseRefusal::Unexpected { .. } => "Syntax: Unexpected",
-        ParseRefusal::TooDeep { .. } => "Syntax: TooDeep",
-        ParseRefusal::NoMemory => "Syntax: NoMemory",
-    }
-}
-
-fn lexer_place(fault: LexRefusal) -> Spot
-    ensures { result ≡ lexer_place fault }
-{
-    match fault {
-        LexRefusal::BadCharacter(spot) => spot,
-        LexRefusal::BadEscape(spot) => spot,
-        LexRefusal::OpenString(spot) => spot,
-        LexRefusal::BadNumber(spot) => spot,
-        LexRefusal::FloatToken(spot) => spot,
-    }
-}
-
-/// Where a text is no document.
-fn place_of(refusal: ParseRefusal) -> Spot
-    ensures { result ≡ place_of refusal }
-{
-    match refusal {
-        ParseRefusal::Lex(fault) => lexer_place(fault),
-        ParseRefusal::Unexpected { spot } => spot,
-        ParseRefusal::TooDeep { spot } => spot,
-        ParseRefusal::TooLong | ParseRefusal::NoMemory => nowhere(),
-    }
+    let name = refusal.name();
+    Ok(Text::from_string(format!(in alloc; "Syntax: {name}")?))
 }
 
 /// The body of a request that is refused: one part, with one error.
-fn refusal_body(alloc: Global, message: &str, spot: Spot) -> Result<Bytes, NoMemory>
-    ensures { IfOk result (λ bytes. bytes ≡ (refused_at message.now spot).bytes) }
+fn refusal_body(alloc: Global, message: Text, spot: Option<Spot>) -> Result<Bytes, NoMemory>
+    ensures { IfOk result (λ bytes. bytes ≡ (refused message spot).bytes) }
 {
+    let Spot { line, column } = spot_or_zero(spot);
     let mut errors = Listed::new(alloc);
     errors.push(Fault {
-        message: Text::copy_of(alloc, message)?,
-        line: spot.line,
-        column: spot.column,
+        message,
+        line,
+        column,
         path: None,
     })?;
     let payload = Payload {
@@ -211,42 +143,61 @@ fn refusal_body(alloc: Global, message: &str, spot: Spot) -> Result<Bytes, NoMem
     frame(alloc, json.as_slice(), true, true)
 }
 
-/// Refuses a request, and says why and where.
-fn refuse<O: Sink>(alloc: Global, message: &str, spot: Spot, output: &mut O) -> Result<(), Status>
-    ensures meets { Meets (λ o. o ≡ refused_at message.now spot) (ended result) (O.sent output.old) (O.sent output.new) }
-    ensures statuses { IfErr result IsWork }
-    ensures never_done { IsErr result }
-    ensures never_stopped { IsErrOf result Status.StreamRefused → ⊥ }
-    ensures write_fault { Counts (O.faults output.old) (O.faults output.new) (IsErrOf result Status.WriteFault) }
+/// The body of a request whose document is none of GraphQL.
+fn syntax_body(alloc: Global, refusal: ParseRefusal) -> Result<Bytes, NoMemory>
+    ensures { IfOk result (λ bytes. bytes ≡ (refused (syntax_message refusal) (parse_spot refusal)).bytes) }
 {
-    let body = refusal_body(alloc, message, spot)?;
-    match output.put(body.as_slice()) {
-        Ok(()) => Err(Status::Refused),
-        Err(_) => Err(Status::WriteFault),
+    let message = syntax_message(alloc, refusal)?;
+    refusal_body(alloc, message, refusal.spot())
+}
+
+/// The body of a request that is refused as a whole.
+fn whole_body(alloc: Global, message: &str) -> Result<Bytes, NoMemory>
+    ensures { IfOk result (λ bytes. bytes ≡ (refused message.now None).bytes) }
+{
+    let message = Text::copy_of(alloc, message)?;
+    refusal_body(alloc, message, None)
+}
+
+/// Refuses a request with this body, if there was memory to make it.
+fn refuse<O: Sink>(body: Result<Bytes, NoMemory>, output: &mut O) -> Status
+    ensures meets { (why : Outcome) → why.status ≡ Status.Refused → IfOk body (λ bytes. bytes ≡ why.bytes)
+        → Meets (λ o. o ≡ why) result (O.sent output.old) (O.sent output.new) }
+    ensures statuses { (result ≡ Status.Refused) ⊎ ((result ≡ Status.WriteFault) ⊎ (result ≡ Status.NoMemory)) }
+    ensures write_fault { Counts (O.faults output.old) (O.faults output.new) (result ≡ Status.WriteFault) }
+{
+    match body {
+        Ok(body) => put_and_end(body.as_slice(), Status::Refused, output),
+        Err(NoMemory) => Status::NoMemory,
     }
 }
+
+// ---- execution
 
 /// Executes a request that is built: the client is fed the body, and the line of what it merged follows.
 fn execute<O: Sink>(
     alloc: Global,
-    tables: &HeroTables,
-    document: &HeroDocument,
+    request: &HeroRequest,
     cut: usize,
     output: &mut O,
     client: &mut Client,
 ) -> Result<(), Status>
-    requires once { EachOnce document.now }
-    requires stands { RefStands tables.now }
-    requires placed { IsPlaced document.now }
-    requires fit { TablesFit tables.now }
+    requires runs { CanRun request.now }
     requires cut { 0 < cut }
     requires client { IsNew client.old }
-    ensures meets { Meets (Answered (Request.Built tables.now document.now)) (ended result) (O.sent output.old) (O.sent output.new) }
+    ensures meets { Meets (Answered (Executed (regions_of request.now))) (ended result) (O.sent output.old) (O.sent output.new) }
     ensures statuses { IfErr result IsDelivery }
-    ensures client { ClientEnds (λ t d. (t ≡ tables.now) × (d ≡ document.now)) cut client.old client.new (O.sent output.old) (O.sent output.new) (ended result) }
+    ensures client { ClientEnds (λ f. f ≡ regions_of request.now) cut client.old client.new (O.sent output.old) (O.sent output.new) (ended result) }
     ensures write_fault { Counts (O.faults output.old) (O.faults output.new) (IsErrOf result Status.WriteFault) }
 {
-    deliver(alloc, tables, document, cut, output, client)?;
+    deliver(
+        alloc,
+        &request.tables,
+        &request.document,
+        cut,
+        output,
+        client,
+    )?;
     put_merged_line(alloc, client, output)
 }
 
@@ -257,21 +208,19 @@ pub(crate) fn answer<O: Sink>(
     cut: usize,
     output: &mut O,
     client: &mut Client,
-) -> Result<(), Status>
-    requires runs { CanRun request.now }
+) -> Status
+    requires runs { Runs request.now }
     requires cut { 0 < cut }
     requires client { IsNew client.old }
-    ensures meets { Meets (Answered request.now) (ended result) (O.sent output.old) (O.sent output.new) }
-    ensures statuses { IfErr result IsWork }
-    ensures client { ClientEnds (λ t d. request.now ≡ Request.Built t d) cut client.old client.new (O.sent output.old) (O.sent output.new) (ended result) }
-    ensures write_fault { Counts (O.faults output.old) (O.faults output.new) (IsErrOf result Status.WriteFault) }
+    ensures meets { Meets (Answered (judgement_of request.now)) result (O.sent output.old) (O.sent output.new) }
+    ensures statuses { IsWork result }
+    ensures client { ClientEnds (λ f. judgement_of request.now ≡ Executed f) cut client.old client.new (O.sent output.old) (O.sent output.new) result }
+    ensures write_fault { Counts (O.faults output.old) (O.faults output.new) (result ≡ Status.WriteFault) }
 {
     match request {
-        Request::NoText => refuse(alloc, "Document is not UTF-8", nowhere(), output),
-        Request::NoDocument(refusal) => {
-            refuse(alloc, syntax_message(*refusal), place_of(*refusal), output)
-        }
-        Request::NotBuilt => refuse(alloc, "NotBuilt", nowhere(), output),
-        Request::Built(tables, document) => execute(alloc, tables, document, cut, output, client),
+        Request::NoText => refuse(whole_body(alloc, "Document is not UTF-8"), output),
+        Request::NoDocument(refusal) => refuse(syntax_body(alloc, *refusal), output),
+        Request::NotBuilt => refuse(whole_body(alloc, "NotBuilt"), output),
+        Request::Built(request) => ended(execute(alloc, request, cut, output, client)),
     }
 }

@@ -1,6 +1,8 @@
 ghost use Rattle.std.specs.Prelude.{◌≡◌};
 ghost use Rattle.gql_tool.specs.Statuses.{number_of};
+ghost use Rattle.gql_tool.specs.inner.Steps.{ended};
 
+use gql_io::Failed;
 use gql_tree::NoMemory;
 
 /// How a command ends. Its number is the program's exit status.
@@ -46,5 +48,26 @@ impl From<NoMemory> for Status {
 
     fn from(_: NoMemory) -> Self {
         Status::NoMemory
+    }
+}
+
+/// A fault of the output; one of the files or of the input is told where they are read.
+impl From<Failed> for Status {
+    ghost use Rattle.gql_tool.specs.declared.status.Status.TheVariants.{WriteFault};
+
+    ghost from_gives = { λ _ status. status ≡ WriteFault };
+
+    fn from(_: Failed) -> Self {
+        Status::WriteFault
+    }
+}
+
+/// The status of work that ended early or went through.
+pub(crate) fn ended(end: Result<(), Status>) -> Status
+    ensures { result ≡ ended end }
+{
+    match end {
+        Ok(()) => Status::Done,
+        Err(status) => status,
     }
 }

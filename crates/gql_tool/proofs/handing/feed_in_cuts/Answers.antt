@@ -1,9 +1,9 @@
 use Rattle.std.proofs.Common.{◌≡◌, refl, sym, ap, ◌∙◌, subst, arith, append_assoc, append-nil, ◌+◌, ◌<◌, ◌++◌, length, []}
 use Rattle.std.proofs.lemmas.Bool.Decides.{nat_tests}
-use Rattle.gql_tool.specs.declared.client.ClientRefusal.TheVariants as answer
+use Rattle.gql_client.specs.declared.stop.ClientRefusal.TheVariants as answer
 use Rattle.gql_tool.specs.LocalClient.{cuts_in}
-use Rattle.gql_tool.specs.Handed.{StopsIn}
-use Rattle.gql_tool.proofs.Clients.{handed_by}
+use Rattle.gql_tool.specs.inner.Handed.{StopsIn}
+use Rattle.gql_client.proofs.Clients.{handed_by}
 use Rattle.gql_tool.proofs.Cuts.{Hears-nothing, Hears-more, CountsOn-nothing, CountsOn-more, CountsOn-one, CountsOn-same, cuts-none, cuts-more, StopsIn-later, StopsIn-within}
 use Rattle.gql_tool.proofs.handing.feed_in_cuts.Goals as goal
 

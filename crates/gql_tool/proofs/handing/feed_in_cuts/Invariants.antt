@@ -1,5 +1,5 @@
 use Rattle.std.proofs.Common.{◌≡◌, ◌+◌, ◌++◌, length, List, ℕ}
-use Rattle.gql_tool.specs.Handed.{Hears, CountsOn}
+use Rattle.gql_tool.specs.inner.Handed.{Hears, CountsOn}
 use Rattle.gql_tool.specs.LocalClient.{cuts_in}
 use Rattle.gql_tool.proofs.handing.feed_in_cuts.Given as goal
 

@@ -1,4 +1,4 @@
-use Rattle.gql_tool.specs.declared.client.ClientRefusal.TheVariants.{Refused}
+use Rattle.gql_client.specs.declared.stop.ClientRefusal.TheVariants.{Refused}
 use Rattle.gql_tool.proofs.Replays.{Meets-whole, Meets-end, err_by}
 use Rattle.gql_tool.proofs.hearing.end.Goals as goal
 

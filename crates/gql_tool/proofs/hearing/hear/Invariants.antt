@@ -1,6 +1,6 @@
 use Rattle.std.proofs.Common.{◌≡◌, ◌-◌, ◌≤◌, ◌++◌, length, List, ℕ, Some}
-use Rattle.gql_tool.specs.Heard.{Stands, nothing_heard}
-use Rattle.gql_tool.specs.Hearing.{StillTells, heard_of}
+use Rattle.gql_client.specs.Heard.{Stands, nothing_heard}
+use Rattle.gql_tool.specs.inner.Hearing.{StillTells, heard_of}
 use Rattle.gql_tool.specs.Replay.{budget}
 use Rattle.gql_tool.proofs.hearing.hear.Given as goal
 

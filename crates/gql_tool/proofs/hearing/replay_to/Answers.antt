@@ -1,5 +1,5 @@
 use Rattle.std.proofs.Common.{subst}
-use Rattle.gql_tool.specs.Hearing.{EndsAt}
+use Rattle.gql_tool.specs.inner.Hearing.{EndsAt}
 use Rattle.gql_tool.proofs.Replays.{Meets-front, Meets-budget, Meets-all}
 use Rattle.gql_tool.proofs.hearing.replay_to.Goals as goal
 

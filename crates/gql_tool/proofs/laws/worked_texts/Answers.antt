@@ -1,5 +1,5 @@
-use Rattle.gql_model.proofs.Texts.{texts-plain, texts-one_deferred, length-one_deferred, texts-bubbling, texts-null_item, texts-failing}
-use Rattle.gql_model.proofs.worked.worked_texts.Goals as goal
+use Rattle.gql_tool.proofs.WorkedTexts.{texts-plain, texts-one_deferred, length-one_deferred, texts-bubbling, texts-null_item, texts-failing}
+use Rattle.gql_tool.proofs.laws.worked_texts.Goals as goal
 
 pub returns-clause-plain : goal.returns-clause-plain
 returns-clause-plain c = texts-plain

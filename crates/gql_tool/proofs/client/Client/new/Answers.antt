@@ -1,6 +1,0 @@
-use Rattle.std.proofs.Common.{refl}
-use Rattle.gql_tool.proofs.Clients.{Stands-new}
-use Rattle.gql_tool.proofs.client.Client.new.Goals as goal
-
-pub returns-clause-ok : goal.returns-clause-ok
-returns-clause-ok c = Stands-new _ c.args.boundary.now c.in_ok-new.ensures.ok c.new-2.ensures refl refl

@@ -1,0 +1,5 @@
+pub mod Servable
+pub mod Stages
+pub mod Steps
+pub mod Handed
+pub mod Hearing
