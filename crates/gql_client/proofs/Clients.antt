@@ -276,11 +276,6 @@ IsRefusedAtEnd-finish mid new boundary bytes stop a is refused refuses kept =
     let by = refused_by stop a is refused in
     (by.0, ap (λ (c : Client). c.stop) kept ∙ ap Some by.1, subst (λ (c : Client). RefusesEnd boundary bytes c.merger.state by.0) (sym kept) (refuses by.0 by.1))
 
--- a reason that was written
-pub reason_is : {E : Type 0} (r : Result (List ℕ) E) (reason why : List ℕ) → IfOk r (λ w. w ≡ reason) → r ≡ Ok why → why ≡ reason
-reason_is (Ok w) reason why written is = (let same : w ≡ why = cc in sym same ∙ written)
-reason_is (Err e) reason why written is = absurd cc
-
 pub over_by : {t : Bool} → t ≡ false → not t ≡ true
 over_by is = ap not is
 

@@ -22,7 +22,9 @@ use Rattle.gql_merge.specs.declared.refusal.MergeRefusal.{MergeRefusal}
 use Rattle.gql_merge.specs.Apply.{Answer, Apply, fresh}
 use Rattle.gql_merge.specs.Same.{SameState, SameAnswer, IsTypedState}
 use Rattle.gql_merge.proofs.OneAnswer.{same_back, apply_one}
-use Rattle.gql_client.specs.Client.{at_byte, at_payload, payload_name, merge_name, counted, Undecoded, Takes, Follows, AreComplete, AreAll, IsMisframed, Merges, Accepts, Refuses, AcceptsEnd, RefusesEnd}
+use Rattle.gql_payload.specs.Refusals.{payload_name}
+use Rattle.gql_merge.specs.Refusals.{merge_name}
+use Rattle.gql_client.specs.Client.{at_byte, at_payload, counted, Undecoded, Takes, Follows, AreComplete, AreAll, IsMisframed, Merges, Accepts, Refuses, AcceptsEnd, RefusesEnd}
 use Rattle.gql_client.proofs.Clients.{AreComplete-more}
 use Rattle.gql_client.proofs.Understood.{json-one, decodes-one, decodes-never, same_payload}
 

@@ -6,6 +6,7 @@ use Rattle.gql_io.specs.Files.{Files}
 use Rattle.gql_client.specs.declared.client.Client.{Client}
 use Rattle.gql_tool.specs.declared.status.Status.{Status}
 use Rattle.gql_tool.specs.declared.status.Status.TheVariants.{Done, ReadFault, WriteFault, NoMemory, StreamRefused, NoFile, TooLong}
+use Rattle.gql_tool.specs.Words.{Names}
 use Rattle.gql_tool.specs.Judged.{Judgement, Executed}
 use Rattle.gql_tool.specs.LocalClient.{Asks, ClientEnds}
 use Rattle.gql_tool.specs.inner.Steps.{IsStop, Requests}
@@ -21,14 +22,14 @@ ends_as A B cut old new x y z NoMemory also kept ends = tt
 ends_as A B cut old new x y z _ also kept ends = ends
 
 -- the request of the files that were read
-asks : (told : Option Files) (schema tables document vars : List ℕ) (f : Forest) → Requests told schema tables document vars (Executed f) → Asks told schema tables document vars f
-asks None schema tables document vars f asked = tt
-asks (Some files) schema tables document vars f (s, b, c, at_schema, fits_s, at_tables, fits_b, at_document, fits_c, judged) = (s, b, c, at_schema, at_tables, at_document, judged)
+asks : (told : Option Files) (names : Names) (f : Forest) → Requests told names (Executed f) → Asks told names f
+asks None names f asked = tt
+asks (Some files) names f (s, b, c, at_schema, fits_s, at_tables, fits_b, at_document, fits_c, judged) = (s, b, c, at_schema, at_tables, at_document, judged)
 
-pub client_of : (told : Option Files) (schema tables document vars : List ℕ) (is : Judgement) (cut : ℕ) (old new : Client) (x y z : Option (List ℕ)) (status : Status) → Requests told schema tables document vars is → Keeps x y
-    → ClientEnds (λ f. is ≡ Executed f) cut old new y z status → ClientEnds (Asks told schema tables document vars) cut old new x z status
-client_of told schema tables document vars is cut old new x y z status asked kept ends =
-    ends_as (λ f. is ≡ Executed f) (Asks told schema tables document vars) cut old new x y z status (λ f same. asks told schema tables document vars f (subst (Requests told schema tables document vars) same asked)) kept ends
+pub client_of : (told : Option Files) (names : Names) (is : Judgement) (cut : ℕ) (old new : Client) (x y z : Option (List ℕ)) (status : Status) → Requests told names is → Keeps x y
+    → ClientEnds (λ f. is ≡ Executed f) cut old new y z status → ClientEnds (Asks told names) cut old new x z status
+client_of told names is cut old new x y z status asked kept ends =
+    ends_as (λ f. is ≡ Executed f) (Asks told names) cut old new x y z status (λ f same. asks told names f (subst (Requests told names) same asked)) kept ends
 
 -- a command that ended at a file left it as it was
 pub client_unfed : (A : Forest → Type 0) (cut : ℕ) (c : Client) (x z : Option (List ℕ)) (status : Status) → IsStop status → ClientEnds A cut c c x z status

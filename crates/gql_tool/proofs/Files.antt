@@ -11,6 +11,7 @@ use Rattle.gql_io.proofs.Told.{Prefix-kept}
 use Rattle.gql_tool.specs.declared.status.Status.{Status}
 use Rattle.gql_tool.specs.declared.status.Status.TheVariants.{ReadFault, WriteFault, NoMemory, NoFile, TooLong}
 use Rattle.gql_tool.specs.Outcome.{Outcome, Ways, AfterFile, names, file_limit}
+use Rattle.gql_tool.specs.Words.{Names}
 use Rattle.gql_tool.specs.Judged.{Judgement, Judged}
 use Rattle.gql_tool.specs.Local.{Answered, LocalWays}
 use Rattle.gql_tool.specs.Meets.{Meets, MeetsTold}
@@ -107,26 +108,26 @@ same_judged vars s t d schema tables document is is_schema is_tables is_document
     subst (λ (x : List ℕ). Judged vars schema tables x is) is_document (subst (λ (x : List ℕ). Judged vars schema x d is) is_tables (subst (λ (x : List ℕ). Judged vars x t d is) is_schema judged))
 
 -- the three files that were found, on a shelf that tells the same all the while
-pub requests : (told second third : Option Files) (schema tables document vars s b c : List ℕ) (is : Judgement) → second ≡ told → third ≡ second → Finds told schema s → length s ≤ file_limit → Finds second tables b → length b ≤ file_limit
-    → Finds third document c → length c ≤ file_limit → Judged vars s b c is → Requests told schema tables document vars is
-requests told second third schema tables document vars s b c is is_second is_third has_s fits_s has_b fits_b has_c fits_c judged =
-    by told has_s (here second is_second tables b has_b) (here third (is_third ∙ is_second) document c has_c)
+pub requests : (told second third : Option Files) (names : Names) (s b c : List ℕ) (is : Judgement) → second ≡ told → third ≡ second → Finds told names.schema s → length s ≤ file_limit → Finds second names.tables b → length b ≤ file_limit
+    → Finds third names.document c → length c ≤ file_limit → Judged names.vars s b c is → Requests told names is
+requests told second third names s b c is is_second is_third has_s fits_s has_b fits_b has_c fits_c judged =
+    by told has_s (here second is_second names.tables b has_b) (here third (is_third ∙ is_second) names.document c has_c)
   where
     here : (f : Option Files) → f ≡ told → (name bytes : List ℕ) → Finds f name bytes → Finds told name bytes
     here f same name bytes has = subst (λ (o : Option Files). Finds o name bytes) same has
 
-    by : (f : Option Files) → Finds f schema s → Finds f tables b → Finds f document c → Requests f schema tables document vars is
+    by : (f : Option Files) → Finds f names.schema s → Finds f names.tables b → Finds f names.document c → Requests f names is
     by None at_schema at_tables at_document = tt
     by (Some files) at_schema at_tables at_document = (s, b, c, at_schema, fits_s, at_tables, fits_b, at_document, fits_c, judged)
 
 -- a request that was read is answered
-pub answers : (told : Option Files) (schema tables document vars : List ℕ) (is : Judgement) (status : Status) (x y z : Option (List ℕ)) → Requests told schema tables document vars is → Keeps x y → Meets (Answered is) status y z
-    → MeetsTold told (LocalWays schema tables document vars) status x z
-answers None schema tables document vars is status x y z asked kept meets = untold (Answered is) (LocalWays schema tables document vars) status x z (Meets-kept (Answered is) status x y z kept meets)
-answers (Some files) schema tables document vars is status x y z (s, b, c, at_schema, fits_s, at_tables, fits_b, at_document, fits_c, judged) kept meets =
-    Meets-more (Answered is) (LocalWays schema tables document vars files) status x z
+pub answers : (told : Option Files) (names : Names) (is : Judgement) (status : Status) (x y z : Option (List ℕ)) → Requests told names is → Keeps x y → Meets (Answered is) status y z
+    → MeetsTold told (LocalWays names) status x z
+answers None names is status x y z asked kept meets = untold (Answered is) (LocalWays names) status x z (Meets-kept (Answered is) status x y z kept meets)
+answers (Some files) names is status x y z (s, b, c, at_schema, fits_s, at_tables, fits_b, at_document, fits_c, judged) kept meets =
+    Meets-more (Answered is) (LocalWays names files) status x z
     (λ o right.
-    found (files schema) schema s _ o at_schema fits_s
-    (found (files tables) tables b _ o at_tables fits_b
-    (found (files document) document c _ o at_document fits_c (is, judged, right))))
+    found (files names.schema) names.schema s _ o at_schema fits_s
+    (found (files names.tables) names.tables b _ o at_tables fits_b
+    (found (files names.document) names.document c _ o at_document fits_c (is, judged, right))))
     (Meets-kept (Answered is) status x y z kept meets)

@@ -4,6 +4,7 @@ use Rattle.gql_io.specs.Files.{Files}
 use Rattle.gql_tool.specs.declared.status.Status.{Status}
 use Rattle.gql_tool.specs.declared.status.Status.TheVariants.{Done, Refused, ReadFault, WriteFault, NoMemory}
 use Rattle.gql_tool.specs.Outcome.{Outcome, Ways, AfterFile, file_limit}
+use Rattle.gql_tool.specs.Words.{Names}
 use Rattle.gql_tool.specs.Judged.{Judgement, NoText, NoDocument, NotBuilt, Executed}
 use Rattle.gql_tool.specs.Local.{Answered, RequestWays, LocalWays}
 use Rattle.gql_tool.specs.Meets.{Meets, MeetsTold, IsJudged, HasFiles, Whole}
@@ -25,26 +26,26 @@ answered (Executed f) o (inl delivered) = subst (λ (p : Outcome). IsJudged p.st
 answered (Executed f) o (inr cut) = subst (λ (p : Outcome). IsJudged p.status) (sym cut.is) tt
 
 -- the right outcomes are those of the request
-right : (files : Files) (schema tables document vars : List ℕ) (o : Outcome) → HasFiles (Some files) schema tables document → LocalWays schema tables document vars files o
+right : (files : Files) (names : Names) (o : Outcome) → HasFiles (Some files) names → LocalWays names files o
     → IsJudged o.status
-right files schema tables document vars o has ways =
+right files names o has ways =
     let s = has.0 in
     let t = has.1 in
     let d = has.2 in
-    let at_schema = leads_on (files schema) schema s.0 (λ s. AfterFile (files tables) tables (λ t. AfterFile (files document) document (λ d. RequestWays vars s t d))) o s.1 s.2 ways in
-    let at_tables = leads_on (files tables) tables t.0 (λ t. AfterFile (files document) document (λ d. RequestWays vars s.0 t d)) o t.1 t.2 at_schema in
-    let at_document = leads_on (files document) document d.0 (λ d. RequestWays vars s.0 t.0 d) o d.1 d.2 at_tables in
+    let at_schema = leads_on (files names.schema) names.schema s.0 (λ s. AfterFile (files names.tables) names.tables (λ t. AfterFile (files names.document) names.document (λ d. RequestWays names.vars s t d))) o s.1 s.2 ways in
+    let at_tables = leads_on (files names.tables) names.tables t.0 (λ t. AfterFile (files names.document) names.document (λ d. RequestWays names.vars s.0 t d)) o t.1 t.2 at_schema in
+    let at_document = leads_on (files names.document) names.document d.0 (λ d. RequestWays names.vars s.0 t.0 d) o d.1 d.2 at_tables in
     answered at_document.0 o at_document.2
 
-pub judged : (told : Option Files) (schema tables document vars : List ℕ) (status : Status) (a b : Option (List ℕ)) → HasFiles told schema tables document
-    → MeetsTold told (LocalWays schema tables document vars) status a b → ¬ (status ≡ ReadFault) → ¬ (status ≡ WriteFault) → IsJudged status
-judged None schema tables document vars status a b has meets no_read no_write = absurd has
-judged (Some files) schema tables document vars status a b has meets no_read no_write = by_status status meets no_read no_write
+pub judged : (told : Option Files) (names : Names) (status : Status) (a b : Option (List ℕ)) → HasFiles told names
+    → MeetsTold told (LocalWays names) status a b → ¬ (status ≡ ReadFault) → ¬ (status ≡ WriteFault) → IsJudged status
+judged None names status a b has meets no_read no_write = absurd has
+judged (Some files) names status a b has meets no_read no_write = by_status status meets no_read no_write
   where
-    whole : (s : Status) → Whole (LocalWays schema tables document vars files) s a b → IsJudged s
-    whole s w = subst IsJudged (sym w.2) (right files schema tables document vars w.0 has w.1)
+    whole : (s : Status) → Whole (LocalWays names files) s a b → IsJudged s
+    whole s w = subst IsJudged (sym w.2) (right files names w.0 has w.1)
 
-    by_status : (s : Status) → Meets (LocalWays schema tables document vars files) s a b → ¬ (s ≡ ReadFault) → ¬ (s ≡ WriteFault) → IsJudged s
+    by_status : (s : Status) → Meets (LocalWays names files) s a b → ¬ (s ≡ ReadFault) → ¬ (s ≡ WriteFault) → IsJudged s
     by_status ReadFault m no_read no_write = absurd (no_read refl)
     by_status WriteFault m no_read no_write = absurd (no_write refl)
     by_status NoMemory m no_read no_write = tt

@@ -18,6 +18,7 @@ use Rattle.gql_io.specs.Files.{Files}
 use Rattle.gql_tool.specs.declared.status.Status.TheVariants.{Done, StreamRefused}
 use Rattle.gql_tool.specs.Outcome.{Outcome, Ways, AfterFile}
 use Rattle.gql_tool.specs.hero.Built.{forest_of}
+use Rattle.gql_tool.specs.Words.{Names}
 use Rattle.gql_tool.specs.Judged.{Judgement, NoText, NoDocument, NotBuilt, Executed, Parses, Judged}
 use Rattle.gql_tool.specs.Local.{Fits, part_limit, texts, body, IsMergedLine, IsDelivered, IsCutOff, up_to, Answered, RequestWays, LocalWays}
 
@@ -172,6 +173,6 @@ request_ways_one : (vars schema tables document : List ℕ) → IsOne (RequestWa
 request_ways_one vars schema tables document a b h k =
     answered_one k.0 a b (subst (λ (is : Judgement). Answered is a) (judgement_one vars schema tables document h.0 k.0 h.1 k.1) h.2) k.2
 
-pub local_one : (schema tables document vars : List ℕ) (files : Files) → IsOne (LocalWays schema tables document vars files)
-local_one schema tables document vars files =
-    file_one (files schema) schema _ (λ s. file_one (files tables) tables _ (λ t. file_one (files document) document _ (λ d. request_ways_one vars s t d)))
+pub local_one : (names : Names) (files : Files) → IsOne (LocalWays names files)
+local_one names files =
+    file_one (files names.schema) names.schema _ (λ s. file_one (files names.tables) names.tables _ (λ t. file_one (files names.document) names.document _ (λ d. request_ways_one names.vars s t d)))

@@ -18,6 +18,7 @@ use Rattle.gql_doc.specs.Refusals.{parse_name, parse_spot}
 use Rattle.gql_io.specs.Files.{Files}
 use Rattle.gql_tool.specs.declared.status.Status.TheVariants.{Done, Refused, StreamRefused}
 use Rattle.gql_tool.specs.Outcome.{Outcome, Ways, AfterFile}
+use Rattle.gql_tool.specs.Words.{Names}
 use Rattle.gql_tool.specs.Judged.{Judgement, NoText, NoDocument, NotBuilt, Executed, Judged}
 
 -- ---- a request that is refused
@@ -104,5 +105,5 @@ abbrev pub RequestWays : (vars schema tables document : List ℕ) → Ways
 RequestWays vars schema tables document o = (is : Judgement) × Judged vars schema tables document is × Answered is o
 
 -- SCHEMA, TABLES and DOC are read in this order, and then the request is judged
-abbrev pub LocalWays : (schema tables document vars : List ℕ) → Files → Ways
-LocalWays schema tables document vars files = AfterFile (files schema) schema (λ s. AfterFile (files tables) tables (λ t. AfterFile (files document) document (λ d. RequestWays vars s t d)))
+abbrev pub LocalWays : Names → Files → Ways
+LocalWays names files = AfterFile (files names.schema) names.schema (λ s. AfterFile (files names.tables) names.tables (λ t. AfterFile (files names.document) names.document (λ d. RequestWays names.vars s t d)))

@@ -12,7 +12,7 @@ use Rattle.gql_client.specs.Heard.{Stands, nothing_heard, IsRefused}
 use Rattle.gql_tool.specs.Judged.{Executed, Judged}
 use Rattle.gql_tool.specs.Local.{body, texts}
 use Rattle.gql_tool.specs.Replay.{merged_line}
-use Rattle.gql_tool.specs.Words.{Form, LocalForm}
+use Rattle.gql_tool.specs.Words.{Names, Form, LocalForm}
 
 -- the boundary of the bodies that are written
 abbrev pub dash : List ℕ
@@ -36,9 +36,9 @@ abbrev pub cuts_of : ℕ → List (List ℕ) → ℕ
 cuts_of cut texts = sum_by (cuts_in cut) (pieces_of true texts)
 
 -- the request of the files has these regions, as far as the shelf tells
-abbrev pub Asks : Option Files → (schema tables document vars : List ℕ) → Forest → Type 0
-Asks None schema tables document vars f = Unit {0}
-Asks (Some files) schema tables document vars f = (s b c : List ℕ) × (files schema ≡ Some s) × (files tables ≡ Some b) × (files document ≡ Some c) × Judged vars s b c (Executed f)
+abbrev pub Asks : Option Files → Names → Forest → Type 0
+Asks None names f = Unit {0}
+Asks (Some files) names f = (s b c : List ℕ) × (files names.schema ≡ Some s) × (files names.tables ≡ Some b) × (files names.document ≡ Some c) × Judged names.vars s b c (Executed f)
 
 -- it was fed the body in cuts, and took all of it; behind the body the line of what it merged was written
 pub record TookBody (f : Forest) (cut : ℕ) (c : Client) (sent_before sent : Option (List ℕ)) : Type 0 where
@@ -71,5 +71,5 @@ ClientEnds Asked cut old new sent_before sent _ = new ≡ old
 
 -- every other command leaves it unchanged
 abbrev pub ClientOf : Option Files → Option Form → Client → Client → Option (List ℕ) → Option (List ℕ) → Status → Type 0
-ClientOf told (Some (LocalForm schema tables document vars workers cut)) old new sent_before sent status = ClientEnds (Asks told schema tables document vars) cut old new sent_before sent status
+ClientOf told (Some (LocalForm names workers cut)) old new sent_before sent status = ClientEnds (Asks told names) cut old new sent_before sent status
 ClientOf told _ old new sent_before sent status = new ≡ old

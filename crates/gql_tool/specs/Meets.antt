@@ -10,7 +10,7 @@ use Rattle.gql_tool.specs.Local.{LocalWays}
 use Rattle.gql_tool.specs.Replay.{ReplayWays, IsReplayed}
 use Rattle.gql_tool.specs.Served.{IsServed}
 use Rattle.gql_tree.specs.Forest.{Forest}
-use Rattle.gql_tool.specs.Words.{Form, LocalForm, ReplayForm}
+use Rattle.gql_tool.specs.Words.{Names, Form, LocalForm, ReplayForm}
 
 -- a right outcome's status, and all of its bytes
 abbrev pub Whole : Ways → Status → Option (List ℕ) → Option (List ℕ) → Type 0
@@ -36,7 +36,7 @@ MeetsTold None of status old new = ⊤
 
 -- what a command's status and output meet, by what it reads: files, or the input
 abbrev pub Ends : Option Files → Option (List ℕ) → Form → Status → Option (List ℕ) → Option (List ℕ) → Type 0
-Ends files input (LocalForm schema tables document vars workers cut) status old new = MeetsTold files (LocalWays schema tables document vars) status old new
+Ends files input (LocalForm names workers cut) status old new = MeetsTold files (LocalWays names) status old new
 Ends files input (ReplayForm boundary) status old new = MeetsTold input (ReplayWays boundary) status old new
 
 -- nothing is written where the words have no form
@@ -54,12 +54,12 @@ IsAnswer _ = ⊤
 -- which statuses a command ends with, whether anything tells or not
 abbrev pub IsEnd : Option Form → Status → Type 0
 IsEnd None status = status ≡ Usage
-IsEnd (Some (LocalForm schema tables document vars workers cut)) status = IsAnswer status
+IsEnd (Some (LocalForm names workers cut)) status = IsAnswer status
 IsEnd (Some (ReplayForm boundary)) status = IsReplayed status
 
 -- the command reads files, or the input
 abbrev pub ReadsFiles : Option Form → Type 0
-ReadsFiles (Some (LocalForm schema tables document vars workers cut)) = ⊤
+ReadsFiles (Some (LocalForm names workers cut)) = ⊤
 ReadsFiles _ = ⊥
 
 abbrev pub ReadsInput : Option Form → Type 0
@@ -90,14 +90,14 @@ abbrev pub HasFile : Files → List ℕ → Type 0
 HasFile files name = (bytes : List ℕ) × (files name ≡ Some bytes) × (length bytes ≤ file_limit)
 
 -- the shelf tells that the three files are there
-abbrev pub HasFiles : Option Files → (schema tables document : List ℕ) → Type 0
-HasFiles None schema tables document = ⊥
-HasFiles (Some files) schema tables document = HasFile files schema × HasFile files tables × HasFile files document
+abbrev pub HasFiles : Option Files → Names → Type 0
+HasFiles None names = ⊥
+HasFiles (Some files) names = HasFile files names.schema × HasFile files names.tables × HasFile files names.document
 
 -- the files of `local` are there, or the input of `replay` is a server's body
 abbrev pub Ready : Option Files → Option (List ℕ) → Option Form → Type 0
 Ready files input None = ⊥
-Ready files input (Some (LocalForm schema tables document vars workers cut)) = HasFiles files schema tables document
+Ready files input (Some (LocalForm names workers cut)) = HasFiles files names
 Ready files input (Some (ReplayForm boundary)) = (f : Forest) × IsServed f boundary input
 
 -- the statuses that are left then, where nothing outside fails

@@ -3,12 +3,20 @@ use Rattle.std.specs.Prelude.{ℕ, ◌&&◌, not, ◌==◌, nat_le, Bool, true, 
 use Rattle.std.specs.Char.{is_ascii_digit}
 use Rattle.std.specs.List.{list_all}
 use Rattle.std.specs.Str.Parse.{digits_value}
+use Rattle.gql_tool.specs.declared.local_words.LocalWords.{LocalWords}
 use Rattle.gql_tool.specs.declared.words.Command.{Command}
 use Rattle.gql_tool.specs.declared.words.Command.TheVariants.{Local, Replay}
 
+-- the names of the three files of `local`, and its variables
+pub record Names : Type 0 where
+  pub schema : List ℕ
+  pub tables : List ℕ
+  pub document : List ℕ
+  pub vars : List ℕ
+
 -- a command, by its words
 pub data Form : Type 0 where
-  LocalForm : (schema tables document vars : List ℕ) (workers cut : ℕ) → Form
+  LocalForm : (names : Names) (workers cut : ℕ) → Form
   ReplayForm : (boundary : List ℕ) → Form
 
 -- a single byte, or more of which the first is no `0`
@@ -29,7 +37,7 @@ is_number low high text = is_decimal text && nat_le low (digits_value 10 text) &
 abbrev pub local_form : (schema tables document vars workers cut : List ℕ) → Option Form
 local_form schema tables document vars workers cut =
     if is_number 0 0 workers && is_number 1 1048576 cut
-    then Some (LocalForm schema tables document vars (digits_value 10 workers) (digits_value 10 cut)) else None
+    then Some (LocalForm (record { schema = schema; tables = tables; document = document; vars = vars }) (digits_value 10 workers) (digits_value 10 cut)) else None
 
 -- `local SCHEMA TABLES DOCUMENT VARS WORKERS CUT` or `replay BOUNDARY`, and nothing else
 abbrev pub form_of : List (List ℕ) → Option Form
@@ -38,7 +46,10 @@ form_of (command ∷ schema ∷ tables ∷ document ∷ vars ∷ workers ∷ cut
 form_of (command ∷ boundary ∷ []) = if bytes_eq command (codes "replay") then Some (ReplayForm boundary) else None
 form_of _ = None
 
--- what a command's fields point to
+-- what the fields of a command point to
+abbrev pub names_of : LocalWords → Names
+names_of words = record { schema = words.schema.now; tables = words.tables.now; document = words.document.now; vars = words.vars.now }
+
 abbrev pub said : Command → Form
-said (Local words) = LocalForm words.schema.now words.tables.now words.document.now words.vars.now words.workers words.cut
+said (Local words) = LocalForm (names_of words) words.workers words.cut
 said (Replay boundary) = ReplayForm boundary.now

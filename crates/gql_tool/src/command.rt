@@ -4,7 +4,7 @@ ghost use Rattle.std.specs.Prelude.{◌≡◌, ◌⊎◌, ◌↔◌, ◌++◌, [
 ghost use Rattle.std.specs.Io.KnownBytes.{Keeps};
 ghost use Rattle.gql_io.specs.Faults.{Counts, Rose};
 ghost use Rattle.gql_io.specs.Told.{Puts};
-ghost use Rattle.gql_tool.specs.Words.{form_of};
+ghost use Rattle.gql_tool.specs.Words.{form_of, names_of};
 ghost use Rattle.gql_tool.specs.Outcome.{names, file_limit};
 ghost use Rattle.gql_tool.specs.Local.{LocalWays};
 ghost use Rattle.gql_tool.specs.LocalClient.{IsNew, Asks, ClientEnds, ClientOf};
@@ -81,10 +81,10 @@ fn requested<S: Shelf, O: Sink>(
     shelf: &mut S,
     output: &mut O,
 ) -> Result<Request, Status>
-    ensures asks { IfOk result (λ request. Requests (S.files shelf.old) words.now.schema.now words.now.tables.now words.now.document.now words.now.vars.now (judgement_of request)) }
+    ensures asks { IfOk result (λ request. Requests (S.files shelf.old) (names_of words.now) (judgement_of request)) }
     ensures runs { IfOk result Runs }
     ensures kept { OnOk result (Keeps (O.sent output.old) (O.sent output.new)) }
-    ensures stops { IfErr result (λ status. MeetsTold (S.files shelf.old) (LocalWays words.now.schema.now words.now.tables.now words.now.document.now words.now.vars.now)
+    ensures stops { IfErr result (λ status. MeetsTold (S.files shelf.old) (LocalWays (names_of words.now))
         status (O.sent output.old) (O.sent output.new)) }
     ensures statuses { IfErr result IsStop }
     ensures same { S.files shelf.new ≡ S.files shelf.old }
@@ -126,11 +126,11 @@ pub fn local<S: Shelf, O: Sink>(
     ensures statuses { IsAnswer result }
 
     // The status, what is written and what the client is, where the shelf tells.
-    ensures answers { MeetsTold (S.files shelf.old) (LocalWays words.now.schema.now words.now.tables.now words.now.document.now words.now.vars.now) result
+    ensures answers { MeetsTold (S.files shelf.old) (LocalWays (names_of words.now)) result
         (O.sent output.old) (O.sent output.new) }
-    ensures client { ClientEnds (Asks (S.files shelf.old) words.now.schema.now words.now.tables.now words.now.document.now words.now.vars.now) words.now.cut
+    ensures client { ClientEnds (Asks (S.files shelf.old) (names_of words.now)) words.now.cut
         client.old client.new (O.sent output.old) (O.sent output.new) result }
-    ensures complete { HasFiles (S.files shelf.old) words.now.schema.now words.now.tables.now words.now.document.now
+    ensures complete { HasFiles (S.files shelf.old) (names_of words.now)
         → ¬ Rose (S.faults shelf.old) (S.faults shelf.new) → ¬ Rose (O.faults output.old) (O.faults output.new)
         → IsJudged result }
 

@@ -4,14 +4,14 @@ ghost use Rattle.std.specs.Prelude.{◌≡◌, ℕ, List, [], ◌∷◌, codes, 
 ghost use Rattle.gql_model.specs.Sample.{plain, one_deferred, bubbling, null_item, failing};
 ghost use Rattle.gql_model.specs.Worked.{regions};
 ghost use Rattle.gql_io.specs.Files.{Files};
+ghost use Rattle.gql_tool.specs.Words.{Names};
 ghost use Rattle.gql_tool.specs.Outcome.{Outcome};
 ghost use Rattle.gql_tool.specs.Local.{texts, body, LocalWays};
 ghost use Rattle.gql_tool.specs.Replay.{ReplayWays};
 
 /// For the same words and files one outcome of `local` is right.
 pub fn local_has_one_outcome()
-    ensures { (schema tables document vars : List ℕ) (files : Files) (a b : Outcome)
-        → LocalWays schema tables document vars files a → LocalWays schema tables document vars files b → a ≡ b }
+    ensures { (names : Names) (files : Files) (a b : Outcome) → LocalWays names files a → LocalWays names files b → a ≡ b }
 {}
 
 /// For the same boundary and input one outcome of `replay` is right.

@@ -4,6 +4,7 @@ use Rattle.gql_io.specs.Files.{Files}
 use Rattle.gql_tool.specs.declared.status.Status.{Status}
 use Rattle.gql_tool.specs.declared.status.Status.TheVariants.{Done, Refused, ReadFault, WriteFault, NoMemory, StreamRefused, NoFile, TooLong}
 use Rattle.gql_tool.specs.Outcome.{Ways, names, file_limit}
+use Rattle.gql_tool.specs.Words.{Names}
 use Rattle.gql_tool.specs.Judged.{Judgement, Judged}
 use Rattle.gql_tool.specs.Meets.{MeetsTold}
 
@@ -51,7 +52,7 @@ ended (Ok x) = Done
 ended (Err status) = status
 
 -- the request of the files is judged so, as far as the shelf tells
-abbrev pub Requests : Option Files → (schema tables document vars : List ℕ) → Judgement → Type 0
-Requests None schema tables document vars is = Unit {0}
-Requests (Some files) schema tables document vars is =
-    (s b c : List ℕ) × (files schema ≡ Some s) × (length s ≤ file_limit) × (files tables ≡ Some b) × (length b ≤ file_limit) × (files document ≡ Some c) × (length c ≤ file_limit) × Judged vars s b c is
+abbrev pub Requests : Option Files → Names → Judgement → Type 0
+Requests None names is = Unit {0}
+Requests (Some files) names is =
+    (s b c : List ℕ) × (files names.schema ≡ Some s) × (length s ≤ file_limit) × (files names.tables ≡ Some b) × (length b ≤ file_limit) × (files names.document ≡ Some c) × (length c ≤ file_limit) × Judged names.vars s b c is

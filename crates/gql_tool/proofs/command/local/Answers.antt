@@ -1,5 +1,4 @@
-use Rattle.std.proofs.Common.{subst, sym}
-use Rattle.gql_tool.specs.Meets.{IsJudged}
+use Rattle.gql_tool.specs.Words.{names_of}
 use Rattle.gql_tool.specs.hero.Hero.{judgement_of}
 use Rattle.gql_tool.proofs.Asked.{client_of, client_unfed}
 use Rattle.gql_tool.proofs.Files.{answers}
@@ -7,5 +6,4 @@ use Rattle.gql_tool.proofs.Judged.{judged}
 use Rattle.gql_tool.proofs.command.local.Goals as goal
 
 pub returns-in-Ok-clause-answers : goal.returns-in-Ok-clause-answers
-returns-in-Ok-clause-answers g c =
-    answers _ c.args.words.now.schema.now c.args.words.now.tables.now c.args.words.now.document.now c.args.words.now.vars.now (judgement_of c.in-Ok.request) _ _ _ _ c.in-Ok.ensures.asks c.in-Ok.ensures.kept c.answer.ensures.meets
+returns-in-Ok-clause-answers g c = answers _ (names_of c.args.words.now) (judgement_of c.in-Ok.request) _ _ _ _ c.in-Ok.ensures.asks c.in-Ok.ensures.kept c.answer.ensures.meets
