@@ -13,9 +13,6 @@ use crate::unite::Unlike;
 use crate::{Key, Listed, NoMemory, Value};
 use std::mem;
 
-#[cfg(test)]
-mod tests;
-
 /// Why something was not joined to what stands at a path.
 #[derive(Debug, Drop)]
 pub enum GraftRefusal {
