@@ -18,7 +18,7 @@ use Rattle.gql_tree.specs.declared.Stream.{Stream}
 use Rattle.gql_tree.specs.declared.RegionResult.{RegionResult}
 use Rattle.gql_tree.specs.declared.TaskWork.{TaskWork}
 use Rattle.gql_tree.specs.declared.TaskWork.TheVariants.{Fields, Item}
-use Rattle.gql_tree.specs.Forest.{Forest, grown, grow, tasks_of, items_of}
+use Rattle.gql_tree.specs.Forest.{Forest, grown, grow, tasks_of, items_to_come}
 use Rattle.gql_tree.specs.Keys.{same_lists, same_fragment}
 use Rattle.gql_model.specs.declared.operation.Node.{Node}
 use Rattle.gql_model.specs.declared.operation.StreamUse.{StreamUse}
@@ -182,7 +182,7 @@ module _ (w : World) (nodes : List Node) (numbered : IsNumbered nodes) where
     tasks_by nothing fs h = tt
     tasks_by (good x f) fs h = each_append T _ _
         (each_map T G Fields groups _ (each_ordered G group_cmp f.groups h.0))
-        (each_flat T S items_of (λ y k. items_settled T y (streams y k) _) _ (each_ordered S stream_cmp f.streams h.1))
+        (each_flat T S items_to_come (λ y k. items_settled T y (streams y k) _) _ (each_ordered S stream_cmp f.streams h.1))
 
     tasks_all : (p : Part) → AllIn G S p → Each T (tasks_of (region_of p))
     tasks_all p h = tasks_by p.result p.faults h

@@ -8,7 +8,7 @@ use Rattle.gql_tree.specs.declared.value.Value.{Value}
 use Rattle.gql_tree.specs.declared.fields.Named.{Named}
 use Rattle.gql_tree.specs.Flat.{find}
 use Rattle.gql_tree.specs.Names.{named}
-use Rattle.gql_tree.specs.Place.{change_item, change_named, place_of, find_item, find_named}
+use Rattle.gql_tree.specs.inner.Place.{change_item, change_named, place_of, find_item, find_named}
 
 pub in_items : (ks : List Key) (i : ℕ) (vs : List Value) → IsSome (find_item ks i vs) → i < length vs
 in_items ks i [] h = absurd (cc)

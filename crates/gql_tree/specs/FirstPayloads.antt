@@ -19,9 +19,9 @@ use Rattle.gql_tree.specs.Keys.{same_fragment}
 use Rattle.gql_tree.specs.Forest.{Forest, Branches, none, more, region, branches}
 
 -- a failed initial region is a response whose `data` is null
-abbrev pub value_of : Outcome → Value
-value_of (Good x) = x
-value_of Failed = v.Null
+abbrev pub outcome_value : Outcome → Value
+outcome_value (Good x) = x
+outcome_value Failed = v.Null
 
 abbrev pub label_of : List Frag → FragId → Option (List ℕ)
 label_of fs id = option_and_then (λ f. f.label) (find (λ f. same_fragment f.id id) fs)
@@ -42,7 +42,7 @@ first_has_next [] = None
 first_has_next (g ∷ gs) = Some true
 
 abbrev pub first_payload : RegionResult → Payload
-first_payload r = record { initial = Some (value_of r.outcome); errors = r.faults; pending = pendings r.fragments 0 r.groups; incremental = []; completed = []; has_next = first_has_next r.groups }
+first_payload r = record { initial = Some (outcome_value r.outcome); errors = r.faults; pending = pendings r.fragments 0 r.groups; incremental = []; completed = []; has_next = first_has_next r.groups }
 
 -- the regions of the groups, in group order
 abbrev pub group_regions : Branches → List RegionResult

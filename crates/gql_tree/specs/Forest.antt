@@ -25,12 +25,12 @@ numbers i zero = []
 numbers i (suc n) = i ∷ numbers (i + 1) n
 
 -- the items of a stream that are still to come
-abbrev pub items_of : Stream → List TaskWork
-items_of s = map (Item s) (numbers s.first (s.length - s.first))
+abbrev pub items_to_come : Stream → List TaskWork
+items_to_come s = map (Item s) (numbers s.first (s.length - s.first))
 
 -- the tasks that a region makes: its groups in group order, then the items of its streams by path and index
 abbrev pub tasks_of : RegionResult → List TaskWork
-tasks_of r = map Fields r.groups ++ flat_map items_of r.streams
+tasks_of r = map Fields r.groups ++ flat_map items_to_come r.streams
 
 abbrev pub grow : (TaskWork → Forest) → List TaskWork → Branches
 grow f [] = none

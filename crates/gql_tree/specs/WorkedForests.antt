@@ -16,8 +16,8 @@ use Rattle.gql_tree.specs.declared.delivery.TaskWork.TheVariants.{Fields, Item}
 use Rattle.gql_tree.specs.Forest.{Forest, grown, none, more}
 
 -- an object of one member
-abbrev pub object : List ℕ → Value → Value
-object name x = v.Object (record { name = name; value = x } ∷ [])
+abbrev pub one_member : List ℕ → Value → Value
+one_member name x = v.Object (record { name = name; value = x } ∷ [])
 
 -- ---- deferred fragments at `hero`
 
@@ -40,7 +40,7 @@ abbrev pub ended : Outcome → List Fault → RegionResult
 ended outcome faults = record { outcome = outcome; faults = faults; fragments = []; groups = []; streams = [] }
 
 abbrev pub luke : RegionResult
-luke = ended (Good (object (codes "name") (v.Text (codes "Luke")))) []
+luke = ended (Good (one_member (codes "name") (v.Text (codes "Luke")))) []
 
 abbrev pub boom : RegionResult
 boom = ended Failed (bang ∷ [])
@@ -48,7 +48,7 @@ boom = ended Failed (bang ∷ [])
 -- an initial region with these fragments and groups
 abbrev pub waiting : List Frag → List Group → RegionResult
 waiting fragments groups = record {
-  outcome = Good (object (codes "hero") (object (codes "id") (v.Text (codes "1"))));
+  outcome = Good (one_member (codes "hero") (one_member (codes "id") (v.Text (codes "1"))));
   faults = [];
   fragments = fragments;
   groups = groups;

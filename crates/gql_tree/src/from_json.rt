@@ -10,12 +10,15 @@ ghost use Rattle.gql_tree.specs.declared.from_json.NumberRefusal.TheVariants.{Ba
 use crate::{Fields, Listed, NoMemory, Text, Value};
 use serde_json::Map;
 use std::alloc::{AllocError, Global};
+use thiserror::Error;
 
 /// Why a JSON is not taken as a value.
-#[derive(Clone, Copy, Debug, PartialEq, Eq)]
+#[derive(Clone, Copy, Debug, PartialEq, Eq, Error)]
 pub enum NumberRefusal {
     /// A number in it is no integer of 64 signed bits.
+    #[error("a number is no integer of 64 bits")]
     BadNumber,
+    #[error("no memory left")]
     NoMemory,
 }
 

@@ -2,7 +2,7 @@
 
 ghost use Rattle.std.specs.Prelude.{◌≡◌, Some, IsSome};
 ghost use Rattle.gql_tree.specs.Flat.{find};
-ghost use Rattle.gql_tree.specs.Place.{put_at, place_of, change_item, change_named, find_item, find_named};
+ghost use Rattle.gql_tree.specs.inner.Place.{put_at, place_of, change_item, change_named, find_item, find_named};
 
 use crate::{Fields, Key, Listed, Named, Text, Value};
 use std::mem;

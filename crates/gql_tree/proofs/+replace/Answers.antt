@@ -3,7 +3,7 @@ use Rattle.gql_tree.proofs.Place.{in_items, find_item_at, change_item_set, in_me
 use Rattle.gql_tree.specs.Flat.{find}
 use Rattle.gql_tree.specs.Names.{apart}
 use Rattle.gql_tree.proofs.Apart.{apart_changed}
-use Rattle.gql_tree.specs.Place.{put_at, place_of}
+use Rattle.gql_tree.specs.inner.Place.{put_at, place_of}
 use Rattle.gql_tree.specs.declared.value.Value.{Value}
 use Rattle.gql_tree.specs.declared.fields.Named.{Named}
 use Rattle.gql_tree.proofs.+replace.Goals as goal

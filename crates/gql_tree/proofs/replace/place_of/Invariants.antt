@@ -1,5 +1,5 @@
 use Rattle.std.proofs.Common.{◌≡◌, ◌+◌, drop}
-use Rattle.gql_tree.specs.Place.{place_of}
+use Rattle.gql_tree.specs.inner.Place.{place_of}
 use Rattle.gql_tree.proofs.replace.place_of.Given as goal
 
 abbrev pub invariant-loop-i : goal.invariant-loop-i
