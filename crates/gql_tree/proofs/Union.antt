@@ -46,14 +46,6 @@ union_from_layer r a b e f h (k ∷ path) m = maybe_union path m _ _ _ (h k)
 
 -- ---- a list
 
-list_length : (l : Layer) (n : ℕ) → list n ≡ mark_of l → n ≡ length (items_of l)
-list_length Value-F.Null n h = absurd (cc)
-list_length (Value-F.Bool x) n h = absurd (cc)
-list_length (Value-F.Int x) n h = absurd (cc)
-list_length (Value-F.Text x) n h = absurd (cc)
-list_length (Value-F.List x) n h = cc
-list_length (Value-F.Object x) n h = absurd (cc)
-
 list_members : (l : Layer) (n : ℕ) → list n ≡ mark_of l → members_of l ≡ []
 list_members Value-F.Null n h = refl
 list_members (Value-F.Bool x) n h = refl
