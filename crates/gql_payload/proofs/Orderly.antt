@@ -109,14 +109,6 @@ abbrev AreParts : List Part → Type 0
 AreParts [] = ⊤
 AreParts (m ∷ ms) = IsPart m.1 × AreParts ms
 
-first : (a b : Bool) → a && b ≡ true → a ≡ true
-first true b h = refl
-first false b h = absurd (cc)
-
-second : (a b : Bool) → a && b ≡ true → b ≡ true
-second true b h = h
-second false b h = absurd (cc)
-
 less_is : (o : Ordering) → is_less o ≡ true → o ≡ Less
 less_is Less h = refl
 less_is Equal h = absurd (cc)
@@ -124,13 +116,13 @@ less_is Greater h = absurd (cc)
 
 parts_lead : (k : List ℕ) (ms : List Part) → leads k ms ≡ true → Leads k (present ms)
 parts_lead k [] h = tt
-parts_lead k ((n, None) ∷ ms) h = parts_lead k ms (second _ _ h)
-parts_lead k ((n, Some d) ∷ ms) h = (less_is (slice_cmp nat_cmp k n) (first _ _ h), parts_lead k ms (second _ _ h))
+parts_lead k ((n, None) ∷ ms) h = parts_lead k ms (right_of _ _ h)
+parts_lead k ((n, Some d) ∷ ms) h = (less_is (slice_cmp nat_cmp k n) (left_of _ _ h), parts_lead k ms (right_of _ _ h))
 
 members_orderly : (ms : List Part) → ascends ms ≡ true → AreParts ms → AreOrderlyMembers (present ms)
 members_orderly [] h k = tt
-members_orderly ((n, None) ∷ ms) h k = members_orderly ms (second _ _ h) k.1
-members_orderly ((n, Some d) ∷ ms) h k = (k.0, parts_lead n ms (first _ _ h), members_orderly ms (second _ _ h) k.1)
+members_orderly ((n, None) ∷ ms) h k = members_orderly ms (right_of _ _ h) k.1
+members_orderly ((n, Some d) ∷ ms) h k = (k.0, parts_lead n ms (left_of _ _ h), members_orderly ms (right_of _ _ h) k.1)
 
 array_orderly : {X : Type 0} (P : X → Type 0) (f : X → Data) → ((x : X) → P x → IsOrderly (f x)) → (xs : List X) → AllByRecursion P xs → AreOrderlyItems (items_of (map f xs))
 array_orderly P f each [] h = tt
