@@ -10,10 +10,6 @@ IsFresh calls failing = (calls.failing.items ≡ failing) × (calls.made ≡ 0) 
 abbrev pub IsNext : {F : Type 0} → Calls F → Calls F → Type 0
 IsNext old new = (new.failing.items ≡ old.failing.items) × (new.made ≡ min (old.made + 1) (2 ^ 64 - 1))
 
--- one fault later, in the same call
-abbrev pub IsFailed : {F : Type 0} → Calls F → Calls F → Type 0
-IsFailed old new = (new.failing.items ≡ old.failing.items) × (new.made ≡ old.made) × (new.faults ≡ min (old.faults + 1) (2 ^ 64 - 1))
-
 -- the number of the next call is one of those that fail
 abbrev pub FailsNext : Calls ℕ → Type 0
 FailsNext calls = Contains calls.failing.items calls.made

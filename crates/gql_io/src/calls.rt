@@ -1,5 +1,5 @@
-ghost use Rattle.std.specs.Prelude.{◌≡◌, ◌↔◌, IsErr};
-ghost use Rattle.gql_io.specs.Calls.{IsFresh, IsNext, IsFailed, FailsNext};
+ghost use Rattle.std.specs.Prelude.{◌≡◌, ◌↔◌, ◌+◌, ◌-◌, ◌^◌, min, IsErr};
+ghost use Rattle.gql_io.specs.Calls.{IsFresh, IsNext, FailsNext};
 ghost use Rattle.gql_io.specs.Faults.{Counts};
 
 use crate::Failed;
@@ -45,7 +45,8 @@ impl<F> Calls<F> {
 
     /// Counts a fault.
     pub fn fail(&mut self) -> Failed
-        ensures { IsFailed self.old self.new }
+        ensures same { (self.new.failing.items ≡ self.old.failing.items) × (self.new.made ≡ self.old.made) }
+        ensures risen { self.new.faults ≡ min (self.old.faults + 1) (2 ^ 64 - 1) }
     {
         self.faults = self.faults.saturating_add(1);
         Failed
