@@ -24,5 +24,6 @@ report_data value errors failures = object_with (
     ∷ (codes "errors", Some (array fault_data errors))
     ∷ (codes "failures", Some (array failure_data failures)) ∷ [])
 
+-- compact JSON
 abbrev pub report_text : Value → List Fault → List Failure → List ℕ
 report_text value errors failures = compact_text (report_data value errors failures)

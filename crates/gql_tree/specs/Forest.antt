@@ -6,16 +6,20 @@ use Rattle.gql_tree.specs.declared.delivery.TaskWork.{TaskWork}
 use Rattle.gql_tree.specs.declared.delivery.TaskWork.TheVariants.{Fields, Item}
 
 mutual
+  -- a region with what is below it
   pub data Forest : Type 0 where
     grown : RegionResult → Branches → Forest
 
+  -- the tasks of a region, each with the forest of its own region
   pub data Branches : Type 0 where
     none : Branches
     more : TaskWork → Forest → Branches → Branches
 
+-- the region at the root
 abbrev pub region : Forest → RegionResult
 region (grown r bs) = r
 
+-- what is below it
 abbrev pub branches : Forest → Branches
 branches (grown r bs) = bs
 
@@ -32,6 +36,7 @@ items_to_come s = map (Item s) (numbers s.first (s.length - s.first))
 abbrev pub tasks_of : RegionResult → List TaskWork
 tasks_of r = map Fields r.groups ++ flat_map items_to_come r.streams
 
+-- the forest of each task, in order
 abbrev pub grow : (TaskWork → Forest) → List TaskWork → Branches
 grow f [] = none
 grow f (t ∷ ts) = more t (f t) (grow f ts)

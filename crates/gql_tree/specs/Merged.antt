@@ -27,6 +27,7 @@ pub record Part : Type 0 where
   pub value : Value
   pub errors : List Fault
 
+-- a region's part at a path
 abbrev pub part : List Key → RegionResult → Part
 part at r = record { at = at; value = outcome_value r.outcome; errors = r.faults }
 
@@ -39,6 +40,7 @@ pub record Grown : Type 0 where
 abbrev pub first_failure : List ItemRun → Option (List Fault)
 first_failure items = option_map (λ x. x.region.faults) (find (λ x. not (is_good x.region)) items)
 
+-- the list of an announced stream
 abbrev pub grown_list : List ItemRun → Stream → Grown
 grown_list items s = record { at = s.path.keys; length = s.first + length (filter (λ x. is_item_delivered items x.stream x.index) (items_of_stream items s)) }
 
@@ -60,9 +62,11 @@ pub record Delivery : Type 0 where
   pub lists : List Grown
   pub failures : List Failure
 
+-- nothing is delivered
 abbrev nothing : Delivery
 nothing = record { parts = []; lists = []; failures = [] }
 
+-- two deliveries, one behind the other
 abbrev both : Delivery → Delivery → Delivery
 both a b = record { parts = a.parts ++ b.parts; lists = a.lists ++ b.lists; failures = a.failures ++ b.failures }
 
@@ -87,6 +91,7 @@ delivered_below s here items (more (Item st i) (grown r inner) bs) =
     else nothing)
     (delivered_below s here items bs)
 
+-- all of a forest that is delivered, from its root on
 abbrev pub delivery : Forest → Delivery
 delivery (grown r bs) = whole_scope [] r (items_run bs) (scope_of (grown r bs)) (delivered_below (scope_of (grown r bs)) true (items_run bs) bs)
 
