@@ -3,8 +3,9 @@
 use super::hero;
 use crate::values::{one, path, text};
 use gql_tree::{
-    Asked, Bytes, Completed, Content, Detail, Entry, Failure, Fault, FragId, Group, Listed, NoMemory,
-    Occurrence, Outcome, Payload, Pending, RegionResult, Row, Stream, Task, TaskWork, TryCopy, Value,
+    Asked, Bytes, Completed, Content, Detail, Entry, Failure, Fault, FragId, Group, Listed,
+    NoMemory, Occurrence, Outcome, Payload, Pending, RegionResult, Row, Stream, Task, TaskWork,
+    TryCopy, Value,
 };
 use std::alloc::Global;
 use std::fmt::Debug;

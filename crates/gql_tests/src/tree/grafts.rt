@@ -52,7 +52,11 @@ fn fields_grafted(rt: HostRuntime) -> Result<(), Fail> {
         let fields = object(alloc, name, Value::Int(number))?;
         let given = value.graft(path(alloc, place)?.keys.as_slice(), fields);
         assert_eq!(rt; name_of(given), answered, "{name} at {place}");
-        assert_eq!(rt; value.to_json(alloc)?.as_str(), expected, "{name} at {place}");
+        assert_eq!(rt;
+            value.to_json(alloc)?.as_str(),
+            expected,
+            "{name} at {place}"
+        );
     }
     Ok(())
 }
