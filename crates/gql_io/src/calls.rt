@@ -1,6 +1,6 @@
-ghost use Rattle.std.specs.Prelude.{◌≡◌, ◌↔◌, ◌+◌, ◌-◌, ◌^◌, min, IsErr};
+ghost use Rattle.std.specs.Prelude.{◌≡◌, ◌↔◌, ◌≤◌, IsErr};
 ghost use Rattle.gql_io.specs.Calls.{IsFresh, IsNext, FailsNext};
-ghost use Rattle.gql_io.specs.Faults.{Counts};
+ghost use Rattle.gql_io.specs.Faults.{Rose, Counts};
 
 use crate::Failed;
 
@@ -46,7 +46,8 @@ impl<F> Calls<F> {
     /// Counts a fault.
     pub fn fail(&mut self) -> Failed
         ensures same { (self.new.failing.items ≡ self.old.failing.items) × (self.new.made ≡ self.old.made) }
-        ensures risen { self.new.faults ≡ min (self.old.faults + 1) (2 ^ 64 - 1) }
+        ensures later { self.old.faults ≤ self.new.faults }
+        ensures rose { Rose self.old.faults self.new.faults }
     {
         self.faults = self.faults.saturating_add(1);
         Failed

@@ -1,5 +1,5 @@
 -- The JSON of a payload is orderly: its numbers are read back, and the names of its objects ascend.
-use Rattle.std.proofs.Common.{◌≡◌, ℕ, ◌^◌, ◌<◌, List, [], ◌∷◌, map, refl, sym, ◌∙◌, ap, subst, Bool, true, false, ◌&&◌, ◌==◌, IsTrue, Option, Some, None, Ordering, Less, Equal, Greater, nat_cmp, ltb-true, arith}
+use Rattle.std.proofs.Common.{◌≡◌, ℕ, ◌^◌, ◌<◌, List, [], ◌∷◌, map, refl, sym, ◌∙◌, ap, subst, Bool, true, false, ◌==◌, IsTrue, Option, Some, None, Ordering, Less, Equal, Greater, nat_cmp, ltb-true, arith}
 use Rattle.std.specs.Prelude.{ℤ, pos, negsuc, ⊤, IfSome}
 use Rattle.std.specs.List.{AllByRecursion}
 use Rattle.std.specs.Ordering.{match_ordering, ordering_reverse}

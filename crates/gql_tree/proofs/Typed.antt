@@ -1,7 +1,7 @@
 -- What the type of a value keeps, kind by kind, and that no number of its JSON is bad.
 use Rattle.std.proofs.Common.{◌≡◌, ◌<◌, List, [], ◌∷◌, map, refl, sym, ◌∙◌, ap, subst, Bool, true, false, IsTrue, suc, ◌+◌, length, get_or, drop, arith}
 use Rattle.std.proofs.Math.Seq.{drop-cons}
-use Rattle.std.specs.Prelude.{ℕ, ℤ, pos, negsuc, ◌&&◌, ◌||◌, not}
+use Rattle.std.specs.Prelude.{ℕ, ℤ, pos, negsuc, ◌&&◌, not}
 use Rattle.serde_json.specs.Data.{Data, number, Members, no_members, put}
 use Rattle.serde_json.specs.Find.{of_integer}
 use Rattle.serde_json.specs.View.{items_of}
@@ -9,7 +9,7 @@ use Rattle.gql_tree.specs.declared.fields.Named.{Named}
 use Rattle.gql_tree.specs.declared.value.Value.{Value, roll-Value}
 use Rattle.gql_tree.specs.declared.value.Value.TheOpen.{Value-F}
 use Rattle.gql_tree.specs.declared.value.Value.TheFolds.{map-Value, fold-roll-Value, ind-Value}
-use Rattle.gql_tree.specs.declared.value.Value.TheVariants.{rolls-Null, rolls-Bool, rolls-Int, rolls-Text, rolls-List, rolls-Object}
+use Rattle.gql_tree.specs.declared.value.Value.TheVariants.{rolls-Null, rolls-Int, rolls-Text, rolls-List, rolls-Object}
 use Rattle.gql_tree.specs.declared.value.Value.TheVariants as Value
 use Rattle.gql_tree.specs.Names.{apart}
 use Rattle.gql_tree.specs.Json.{put_all, data_step, data_of}

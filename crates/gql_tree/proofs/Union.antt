@@ -12,7 +12,7 @@ use Rattle.gql_tree.specs.declared.value.Value.TheOpen.{Value-F}
 use Rattle.gql_tree.specs.declared.value.Value.TheVariants.{outs-List, outs-Object}
 use Rattle.gql_tree.specs.declared.value.Value.TheVariants as v
 use Rattle.gql_tree.specs.Names.{named, has_name, apart}
-use Rattle.gql_tree.specs.Flat.{Layer, Mark, object, list, mark_of, items_of, members_of, below, find}
+use Rattle.gql_tree.specs.Flat.{Layer, Mark, list, mark_of, items_of, members_of, below, find}
 use Rattle.gql_tree.specs.Union.{Marks, IsUnion, Clashes}
 use Rattle.gql_tree.specs.inner.United.{Unites, Conflict, UnitesMaybe, UnitesItems, Joins, AllJoin, others, ItemsClash, ConflictMaybe, MembersClash}
 use Rattle.gql_tree.proofs.Same.{Distinct, distinct_of, named_first, named_skip}

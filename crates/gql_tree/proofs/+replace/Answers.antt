@@ -1,4 +1,4 @@
-use Rattle.std.proofs.Common.{◌≡◌, refl, sym, ◌∙◌, ap, subst, arith, IsSome, Option, slice_set}
+use Rattle.std.proofs.Common.{refl, sym, ◌∙◌, ap, subst, arith, IsSome, Option, slice_set}
 use Rattle.std.specs.Prelude.{option_and_then}
 use Rattle.gql_tree.proofs.Place.{in_items, find_item_at, change_item_set, with_value, found_at, none_found, none_below}
 use Rattle.gql_tree.proofs.Names.{position-by_name}

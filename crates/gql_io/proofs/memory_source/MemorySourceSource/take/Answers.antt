@@ -1,4 +1,4 @@
-use Rattle.std.proofs.Common.{◌≡◌, ◌∙◌, ◌+◌, ◌-◌, sym, ap, ℕ, length, take, drop, arith, length-drop}
+use Rattle.std.proofs.Common.{◌≡◌, ◌∙◌, ◌+◌, ◌-◌, ap, ℕ, length, take, drop, arith, length-drop}
 use Rattle.std.proofs.lemmas.List.{drop_all, take_all}
 use Rattle.gql_io.proofs.Left.{drop-take}
 use Rattle.gql_io.proofs.memory_source.MemorySourceSource.take.Goals as goal
