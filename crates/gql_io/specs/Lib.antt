@@ -2,6 +2,7 @@ pub mod Faults
 pub mod Told
 pub mod Left
 pub mod Files
+pub mod Calls
 pub mod FileShelf
 pub mod MemoryShelf
 pub mod MemorySink

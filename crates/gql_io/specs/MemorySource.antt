@@ -1,5 +1,6 @@
 -- A source in memory, as its callers see it.
-use Rattle.std.specs.Prelude.{◌≡◌, ℕ, ◌+◌, ◌-◌, ◌^◌, min, max, List, length, drop, Option, Some, Contains}
+use Rattle.std.specs.Prelude.{ℕ, min, max, List, length, drop, Option, Some}
+use Rattle.gql_io.specs.declared.calls.Calls.{Calls}
 use Rattle.gql_io.specs.declared.memory_source.MemorySource.{MemorySource}
 
 -- the bytes that are left
@@ -14,26 +15,14 @@ left_of source = Some (rest_of source)
 abbrev pub step_of : MemorySource → ℕ
 step_of source = source.step
 
--- the numbers of the calls that fail
-abbrev pub failing_of : MemorySource → List ℕ
-failing_of source = source.failing.items
-
--- how many calls were made, and so the number of the next
-abbrev pub calls_of : MemorySource → ℕ
+-- its calls, by number
+abbrev pub calls_of : MemorySource → Calls ℕ
 calls_of source = source.calls
 
 -- how often it has failed
 abbrev pub faults_of : MemorySource → ℕ
-faults_of source = source.faults
-
--- its next call is one of those that fail
-abbrev pub FailsNext : MemorySource → Type 0
-FailsNext source = Contains (failing_of source) (calls_of source)
+faults_of source = source.calls.faults
 
 -- how many bytes a call gives that doesn't fail, with so much room
 abbrev pub count_next : MemorySource → ℕ → ℕ
 count_next source room = min (min (length (rest_of source)) room) (max (step_of source) 1)
-
--- one call later: the same calls fail, and one more is past
-abbrev pub IsNext : MemorySource → MemorySource → Type 0
-IsNext old new = (failing_of new ≡ failing_of old) × (calls_of new ≡ min (calls_of old + 1) (2 ^ 64 - 1)) × (step_of new ≡ step_of old)

@@ -87,8 +87,8 @@ fn read_whole<F: Read + Drop>(alloc: Global, file: F, most: u64) -> Result<Bytes
 #[cfg(test)]
 mod tests {
     use super::*;
+    use crate::choppy::Choppy;
     use std::fs::Permissions;
-    use std::io;
     use std::os::unix::fs::PermissionsExt;
     use std::test::Fail;
 
@@ -138,28 +138,6 @@ mod tests {
         Ok(())
     }
 
-    /// Gives two bytes a read, and fails once where so many are left.
-    #[derive(Drop)]
-    struct Choppy {
-        rest: &'static [u8],
-        fails_at: usize,
-        kind: ErrorKind,
-    }
-
-    impl Read for Choppy {
-        fn read(&mut self, buffer: &mut [u8]) -> io::Result<usize> {
-            if self.rest.len() == self.fails_at {
-                self.fails_at = usize::MAX;
-                return Err(io::Error::from(self.kind));
-            }
-            let count = self.rest.len().min(buffer.len()).min(2);
-            let (front, rest) = self.rest.split_at(count);
-            buffer[..count].copy_from_slice(front);
-            self.rest = rest;
-            Ok(count)
-        }
-    }
-
     #[test]
     fn a_read_that_fails_in_the_middle(rt: HostRuntime) {
         for (kind, most, want) in [
@@ -171,6 +149,7 @@ mod tests {
         ] {
             let reader = Choppy {
                 rest: b"12345",
+                most: 2,
                 fails_at: 3,
                 kind,
             };

@@ -13,6 +13,9 @@
 //! [`MemorySource`], [`MemorySink`]).
 #![tactic(auto)]
 
+mod calls;
+#[cfg(test)]
+mod choppy;
 mod failed;
 mod file_shelf;
 mod memory_shelf;

@@ -1,9 +1,11 @@
-ghost use Rattle.std.specs.Prelude.{◌≡◌, ◌↔◌, ◌≤◌, length, Some, option_map, find, bytes_eq, IfOk, IsErr, IsErrOf};
+ghost use Rattle.std.specs.Prelude.{◌≡◌, ◌↔◌, ◌≤◌, length, Some, option_map, find, bytes_eq, IfOk, IsErrOf};
+ghost use Rattle.gql_io.specs.Calls.{IsFresh, IsNext, FailsNext};
 ghost use Rattle.gql_io.specs.Faults.{Counts};
 ghost use Rattle.gql_io.specs.Files.{Reads};
-ghost use Rattle.gql_io.specs.MemoryShelf.{bytes_under, files_of, failing_of, calls_of, faults_of, FailsNext, IsNext};
+ghost use Rattle.gql_io.specs.MemoryShelf.{bytes_under, files_of, calls_of, faults_of};
 
-use crate::{Failed, Shelf, ShelfRefusal};
+use crate::calls::Calls;
+use crate::{Shelf, ShelfRefusal};
 use gql_tree::{Bytes, Text};
 use std::alloc::Global;
 
@@ -18,9 +20,7 @@ pub struct ShelfFile {
 #[derive(Debug, Drop)]
 pub struct MemoryShelf {
     files: Vec<ShelfFile>,
-    failing: Vec<u64>,
-    calls: u64,
-    faults: u64,
+    calls: Calls<u64>,
 }
 
 impl MemoryShelf {
@@ -28,15 +28,11 @@ impl MemoryShelf {
     /// name, and with the numbers of the calls that fail, counted from 0.
     pub fn new(files: Vec<ShelfFile>, failing: Vec<u64>) -> Self
         ensures files { files_of result ≡ Some (bytes_under files.items) }
-        ensures failing { failing_of result ≡ failing.items }
-        ensures calls { calls_of result ≡ 0 }
-        ensures faults { faults_of result ≡ 0 }
+        ensures calls { IsFresh (calls_of result) failing.items }
     {
         MemoryShelf {
             files,
-            failing,
-            calls: 0,
-            faults: 0,
+            calls: Calls::new(failing),
         }
     }
 
@@ -44,23 +40,7 @@ impl MemoryShelf {
     pub fn faults(&self) -> u64
         ensures { result ≡ faults_of self.now }
     {
-        self.faults
-    }
-
-    /// Counts a call, and a fault where it is one that fails.
-    fn begin_call(&mut self) -> Result<(), Failed>
-        ensures listed { IsErr result ↔ FailsNext self.old }
-        ensures same { self.new.files ≡ self.old.files }
-        ensures next { IsNext self.old self.new }
-        ensures cause { Counts (faults_of self.old) (faults_of self.new) (IsErr result) }
-    {
-        let failing = self.failing.as_slice().contains(&self.calls);
-        self.calls = self.calls.saturating_add(1);
-        if failing {
-            self.faults = self.faults.saturating_add(1);
-            return Err(Failed);
-        }
-        Ok(())
+        self.calls.faults()
     }
 }
 
@@ -83,10 +63,10 @@ impl Shelf for MemoryShelf {
         ensures cause { Counts (faults_of self.old) (faults_of self.new) (IsErrOf result ShelfRefusal.Failed) }
 
         // The calls that fail are those of the list.
-        ensures listed { IsErrOf result ShelfRefusal.Failed ↔ FailsNext self.old }
-        ensures next { IsNext self.old self.new }
+        ensures listed { IsErrOf result ShelfRefusal.Failed ↔ FailsNext (calls_of self.old) }
+        ensures next { IsNext (calls_of self.old) (calls_of self.new) }
     {
-        self.begin_call()?;
+        self.calls.begin()?;
         match file_under(self.files.as_slice(), name) {
             None => Err(ShelfRefusal::Missing),
             Some(file) if file.bytes.as_slice().len() as u64 > most => Err(ShelfRefusal::TooLong),

@@ -1,8 +1,10 @@
 ghost use Rattle.std.specs.Prelude.{◌≡◌, [], Some, IsSome, IsErr};
+ghost use Rattle.gql_io.specs.Calls.{IsFresh, IsNext};
 ghost use Rattle.gql_io.specs.Faults.{Counts};
-ghost use Rattle.gql_io.specs.MemorySink.{sent_of, failing_of, calls_of, faults_of, taken_next, share_of, IsNext, TakesOrFails};
+ghost use Rattle.gql_io.specs.MemorySink.{sent_of, calls_of, faults_of, taken_next, share_of, TakesOrFails};
 ghost use Rattle.gql_io.specs.Told.{Puts};
 
+use crate::calls::Calls;
 use crate::{Failed, Sink};
 use std::alloc::Global;
 
@@ -21,9 +23,7 @@ pub struct SinkFault {
 #[derive(Debug, Drop)]
 pub struct MemorySink {
     sent: Vec<u8>,
-    failing: Vec<SinkFault>,
-    calls: u64,
-    faults: u64,
+    calls: Calls<SinkFault>,
 }
 
 impl MemorySink {
@@ -31,15 +31,11 @@ impl MemorySink {
     /// where two have one number.
     pub fn new(alloc: Global, failing: Vec<SinkFault>) -> Self
         ensures sent { sent_of result ≡ Some [] }
-        ensures failing { failing_of result ≡ failing.items }
-        ensures calls { calls_of result ≡ 0 }
-        ensures faults { faults_of result ≡ 0 }
+        ensures calls { IsFresh (calls_of result) failing.items }
     {
         MemorySink {
             sent: Vec::new(alloc),
-            failing,
-            calls: 0,
-            faults: 0,
+            calls: Calls::new(failing),
         }
     }
 
@@ -54,19 +50,19 @@ impl MemorySink {
     pub fn faults(&self) -> u64
         ensures { result ≡ faults_of self.now }
     {
-        self.faults
+        self.calls.faults()
     }
 
     /// Counts a call, and tells how many bytes it takes where it is one that
     /// fails.
     fn begin_call(&mut self) -> Option<usize>
         ensures taken { result ≡ taken_next self.old }
-        ensures same { (self.new.sent ≡ self.old.sent) × (self.new.faults ≡ self.old.faults) }
-        ensures next { IsNext self.old self.new }
+        ensures same { (self.new.sent ≡ self.old.sent) × (faults_of self.new ≡ faults_of self.old) }
+        ensures next { IsNext (calls_of self.old) (calls_of self.new) }
     {
-        let call = self.calls;
-        self.calls = call.saturating_add(1);
-        self.failing
+        let call = self.calls.count();
+        self.calls
+            .failing()
             .iter()
             .find(|fault| fault.call == call)
             .map(|fault| fault.taken)
@@ -86,13 +82,12 @@ impl Sink for MemorySink {
         // where there is memory for that.
         ensures listed { IsSome (taken_next self.old) → IsErr result }
         ensures share { TakesOrFails self.old self.new (share_of self.old piece.now) result }
-        ensures next { IsNext self.old self.new }
+        ensures next { IsNext (calls_of self.old) (calls_of self.new) }
     {
         let fault = self.begin_call();
         let taken = fault.unwrap_or(piece.len()).min(piece.len());
         if self.sent.extend_from_slice(&piece[..taken]).is_err() || fault.is_some() {
-            self.faults = self.faults.saturating_add(1);
-            return Err(Failed);
+            return Err(self.calls.fail());
         }
         Ok(())
     }

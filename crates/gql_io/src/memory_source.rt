@@ -1,9 +1,11 @@
 ghost use Rattle.std.specs.Prelude.{◌≡◌, ◌↔◌, ◌<◌, min, length, take, IfOk, IsErr};
 ghost use Rattle.std.specs.Io.{ReadsAtMost};
+ghost use Rattle.gql_io.specs.Calls.{IsFresh, IsNext, FailsNext};
 ghost use Rattle.gql_io.specs.Faults.{Counts};
 ghost use Rattle.gql_io.specs.Left.{Takes};
-ghost use Rattle.gql_io.specs.MemorySource.{rest_of, left_of, step_of, failing_of, calls_of, faults_of, FailsNext, count_next, IsNext};
+ghost use Rattle.gql_io.specs.MemorySource.{rest_of, left_of, step_of, calls_of, faults_of, count_next};
 
+use crate::calls::Calls;
 use crate::{Failed, Source};
 
 /// A source in memory, which gives a few bytes a call and fails at the calls
@@ -13,9 +15,7 @@ pub struct MemorySource {
     bytes: Vec<u8>,
     at: usize,
     step: usize,
-    failing: Vec<u64>,
-    calls: u64,
-    faults: u64,
+    calls: Calls<u64>,
 }
 
 impl MemorySource {
@@ -24,17 +24,13 @@ impl MemorySource {
     pub fn new(bytes: Vec<u8>, step: usize, failing: Vec<u64>) -> Self
         ensures rest { rest_of result ≡ bytes.items }
         ensures step { step_of result ≡ step }
-        ensures failing { failing_of result ≡ failing.items }
-        ensures calls { calls_of result ≡ 0 }
-        ensures faults { faults_of result ≡ 0 }
+        ensures calls { IsFresh (calls_of result) failing.items }
     {
         MemorySource {
             bytes,
             at: 0,
             step,
-            failing,
-            calls: 0,
-            faults: 0,
+            calls: Calls::new(failing),
         }
     }
 
@@ -42,23 +38,7 @@ impl MemorySource {
     pub fn faults(&self) -> u64
         ensures { result ≡ faults_of self.now }
     {
-        self.faults
-    }
-
-    /// Counts a call, and a fault where it is one that fails.
-    fn begin_call(&mut self) -> Result<(), Failed>
-        ensures listed { IsErr result ↔ FailsNext self.old }
-        ensures same { rest_of self.new ≡ rest_of self.old }
-        ensures next { IsNext self.old self.new }
-        ensures cause { Counts (faults_of self.old) (faults_of self.new) (IsErr result) }
-    {
-        let failing = self.failing.as_slice().contains(&self.calls);
-        self.calls = self.calls.saturating_add(1);
-        if failing {
-            self.faults = self.faults.saturating_add(1);
-            return Err(Failed);
-        }
-        Ok(())
+        self.calls.faults()
     }
 }
 
@@ -86,11 +66,12 @@ impl Source for MemorySource {
 
         // The calls that fail are those of the list, and each other call gives
         // as much as there is, fits, and is allowed.
-        ensures listed { IsErr result ↔ FailsNext self.old }
+        ensures listed { IsErr result ↔ FailsNext (calls_of self.old) }
         ensures count { IfOk result (λ n. n ≡ count_next self.old (length room.old)) }
-        ensures next { IsNext self.old self.new }
+        ensures next { IsNext (calls_of self.old) (calls_of self.new) }
+        ensures step { step_of self.new ≡ step_of self.old }
     {
-        self.begin_call()?;
+        self.calls.begin()?;
         let at = self.at.min(self.bytes.len());
         let count = copy_front(&self.bytes[at..], room, self.step.max(1));
         self.at = at + count;

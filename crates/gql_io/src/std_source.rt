@@ -70,29 +70,7 @@ fn read_front<R: Read>(reader: &mut R, room: &mut [u8]) -> io::Result<usize>
 #[cfg(test)]
 mod tests {
     use super::*;
-    use std::test::Fail;
-
-    /// Gives three bytes a read, and fails once where so many are left.
-    #[derive(Drop)]
-    struct Choppy {
-        rest: &'static [u8],
-        fails_at: usize,
-        kind: ErrorKind,
-    }
-
-    impl Read for Choppy {
-        fn read(&mut self, buffer: &mut [u8]) -> io::Result<usize> {
-            if self.rest.len() == self.fails_at {
-                self.fails_at = usize::MAX;
-                return Err(io::Error::from(self.kind));
-            }
-            let count = self.rest.len().min(buffer.len()).min(3);
-            let (front, rest) = self.rest.split_at(count);
-            buffer[..count].copy_from_slice(front);
-            self.rest = rest;
-            Ok(count)
-        }
-    }
+    use crate::choppy::Choppy;
 
     #[test]
     fn reads_that_fail_in_the_middle(rt: HostRuntime) {
@@ -104,6 +82,7 @@ mod tests {
         ] {
             let mut source = StdSource::new(Choppy {
                 rest: b"12345",
+                most: 3,
                 fails_at: 2,
                 kind,
             });

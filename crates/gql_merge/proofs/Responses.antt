@@ -13,7 +13,7 @@ use Rattle.gql_tree.specs.declared.delivery.Outcome.TheVariants.{Good, Failed}
 use Rattle.gql_tree.specs.Flat.{Mark, flat}
 use Rattle.gql_tree.specs.Union.{IsUnion, moved}
 use Rattle.gql_tree.specs.Forest.{Forest}
-use Rattle.gql_tree.specs.FirstPayloads.{value_of}
+use Rattle.gql_tree.specs.FirstPayloads.{outcome_value}
 use Rattle.gql_tree.specs.Typed.{IsTypedValue}
 use Rattle.gql_tree.specs.Merged.{Delivery, HasMark, IsMerged, delivery}
 use Rattle.gql_merge.proofs.Deliveries.{alone, alone_delivered, waiting, good_delivered, failed_delivered}
@@ -36,9 +36,9 @@ response f d is x typed marks = (
   },
 )
 
-pub alone_response : (outcome : Outcome) (faults : List Fault) (fragments : List Frag) → IsTypedValue (value_of outcome) → HasResponse (alone outcome faults fragments)
+pub alone_response : (outcome : Outcome) (faults : List Fault) (fragments : List Frag) → IsTypedValue (outcome_value outcome) → HasResponse (alone outcome faults fragments)
 alone_response outcome faults fragments typed =
-    response (alone outcome faults fragments) _ (alone_delivered outcome faults fragments) (value_of outcome) typed (marks_alone (value_of outcome) (value_of outcome) (λ path. refl) faults [])
+    response (alone outcome faults fragments) _ (alone_delivered outcome faults fragments) (outcome_value outcome) typed (marks_alone (outcome_value outcome) (outcome_value outcome) (λ path. refl) faults [])
 
 module _ (value : Value) (faults : List Fault) (id : FragId) (label : Option (List ℕ)) (row : Row) (fields : List Detail) (later : List Fault) where
   -- the group's fields are united with the initial value

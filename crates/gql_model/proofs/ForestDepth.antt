@@ -18,14 +18,14 @@ use Rattle.gql_tree.specs.declared.Stream.{Stream}
 use Rattle.gql_tree.specs.declared.RegionResult.{RegionResult}
 use Rattle.gql_tree.specs.declared.TaskWork.{TaskWork}
 use Rattle.gql_tree.specs.declared.TaskWork.TheVariants.{Fields, Item}
-use Rattle.gql_tree.specs.Forest.{Forest, grown, grow, tasks_of, items_of}
+use Rattle.gql_tree.specs.Forest.{Forest, grown, grow, tasks_of, items_to_come}
 use Rattle.gql_tree.specs.Keys.{same_lists, same_fragment}
 use Rattle.gql_model.specs.declared.operation.Node.{Node}
 use Rattle.gql_model.specs.declared.operation.StreamUse.{StreamUse}
 use Rattle.gql_model.specs.declared.operation.NodeKind.{NodeKind}
 use Rattle.gql_model.specs.declared.operation.NodeKind.TheVariants.{Field, Fragment}
-use Rattle.gql_model.specs.Shape as s
-use Rattle.gql_model.specs.Shape.{Shape}
+use Rattle.gql_model.specs.UsedType as s
+use Rattle.gql_model.specs.UsedType.{UsedType}
 use Rattle.gql_model.specs.World as c
 use Rattle.gql_model.specs.World.{World, Cell, cells_of}
 use Rattle.gql_model.specs.Owners.{owners}
@@ -33,7 +33,7 @@ use Rattle.gql_model.specs.Collect.{met, merged, fragments}
 use Rattle.gql_model.specs.Complete.{Part, Found, Result, bubble, nothing, good, no_found, is_bubble, value_in, found_in, with_parts, whole, soft, hard, indexed, leaf, complete, fault_at, null_message}
 use Rattle.gql_model.specs.Objects.{node_of, stream_from, stream_at, initial_count, executed, executed_at, field_part, fields_part, object_part, object_at, object_value, groups_at, is_own}
 use Rattle.gql_tree.specs.Order.{group_cmp, stream_cmp}
-use Rattle.gql_model.specs.Region.{region_of, item_shape, item_cell, untagged, completed_item, item_of_node, item_at, task_region}
+use Rattle.gql_model.specs.Region.{region_of, item_type, item_cell, untagged, completed_item, item_of_node, item_at, task_region}
 use Rattle.gql_model.specs.Operations.{forest_below}
 use Rattle.gql_model.specs.Depth.{IsNumbered, ForestsUnfold}
 use Rattle.gql_model.proofs.Each.{each_append, each_flat, each_map, each_filter, each_weaker, each_always, each_gathered, each_ordered, each_none}
@@ -88,21 +88,21 @@ module _ (G : Group → Type 0) (S : Stream → Type 0) where
   all_indexed f g i (x ∷ xs) = (g i x, all_indexed f g (i + 1) xs)
 
   module _ (spot : Spot) (object : Row → List Key → Part) (streams : ℕ → ℕ → List Key → Found) (objects : (r : Row) (p : List Key) → AllIn (object r p)) (lists : (first all : ℕ) (p : List Key) → AllFound (streams first all p)) where
-    pub all_complete : (shape : Shape) (first : Option ℕ) (x : Cell) (path : List Key) → AllIn (complete spot object streams shape first x path)
-    all_complete (s.non_null shape) first x path = all_hard (fault_at spot null_message path) (complete spot object streams shape first x path) (all_complete shape first x path)
+    pub all_complete : (used : UsedType) (first : Option ℕ) (x : Cell) (path : List Key) → AllIn (complete spot object streams used first x path)
+    all_complete (s.non_null used) first x path = all_hard (fault_at spot null_message path) (complete spot object streams used first x path) (all_complete used first x path)
     all_complete (s.named t) first (c.ref row) path = all_soft (object row path) (objects row path)
     all_complete (s.named t) first x path = all_leaf spot x path
-    all_complete (s.list shape) (Some n) (c.items xs) path =
-        let item : ℕ → Cell → Part = λ i y. complete spot object streams shape None y (path ++ Index i ∷ []) in
+    all_complete (s.list used) (Some n) (c.items xs) path =
+        let item : ℕ → Cell → Part = λ i y. complete spot object streams used None y (path ++ Index i ∷ []) in
         let items = indexed item 0 (take n (cells_of xs)) in
         let found = streams n (length (cells_of xs)) path in
-        all_soft (whole v.List found items) (all_whole v.List found items (lists n (length (cells_of xs)) path) (all_indexed item (λ i y. all_complete shape None y (path ++ Index i ∷ [])) 0 (take n (cells_of xs))))
-    all_complete (s.list shape) None (c.items xs) path =
-        let item : ℕ → Cell → Part = λ i y. complete spot object streams shape None y (path ++ Index i ∷ []) in
+        all_soft (whole v.List found items) (all_whole v.List found items (lists n (length (cells_of xs)) path) (all_indexed item (λ i y. all_complete used None y (path ++ Index i ∷ [])) 0 (take n (cells_of xs))))
+    all_complete (s.list used) None (c.items xs) path =
+        let item : ℕ → Cell → Part = λ i y. complete spot object streams used None y (path ++ Index i ∷ []) in
         let items = indexed item 0 (cells_of xs) in
-        all_soft (whole v.List no_found items) (all_whole v.List no_found items (tt, tt) (all_indexed item (λ i y. all_complete shape None y (path ++ Index i ∷ [])) 0 (cells_of xs)))
-    all_complete (s.list shape) (Some n) x path = all_leaf spot x path
-    all_complete (s.list shape) None x path = all_leaf spot x path
+        all_soft (whole v.List no_found items) (all_whole v.List no_found items (tt, tt) (all_indexed item (λ i y. all_complete used None y (path ++ Index i ∷ [])) 0 (cells_of xs)))
+    all_complete (s.list used) (Some n) x path = all_leaf spot x path
+    all_complete (s.list used) None x path = all_leaf spot x path
 
 -- ---- what is found stands below
 
@@ -137,7 +137,7 @@ module _ (w : World) (nodes : List Node) (numbered : IsNumbered nodes) where
   module _ (a n : ℕ) (object : Row → List Key → Part) (objects : (r : Row) (p : List Key) → FoundFrom a n (object r p)) (row : Row) (path : List Key) (d : Detail) (from : DetailFrom n d) where
     executed_from : (spot : Spot) (k : NodeKind) → FoundFrom a n (executed w nodes object row path d spot k)
     executed_from spot (Fragment condition defer) = (tt, tt)
-    executed_from spot (Field key name arguments stream) = all_complete (GroupFrom a) (StreamFrom n) spot object (stream_at row d stream) objects (λ first all p. stream_at_from a n row d stream first all p from) (w.shape row.kind name) (initial_count stream) (w.cell row name arguments) _
+    executed_from spot (Field key name arguments stream) = all_complete (GroupFrom a) (StreamFrom n) spot object (stream_at row d stream) objects (λ first all p. stream_at_from a n row d stream first all p from) (w.field_type row.kind name) (initial_count stream) (w.cell row name arguments) _
 
     executed_at_from : (o : Option Node) → FoundFrom a n (executed_at w nodes object row path d o)
     executed_at_from None = (tt, tt)
@@ -182,7 +182,7 @@ module _ (w : World) (nodes : List Node) (numbered : IsNumbered nodes) where
     tasks_by nothing fs h = tt
     tasks_by (good x f) fs h = each_append T _ _
         (each_map T G Fields groups _ (each_ordered G group_cmp f.groups h.0))
-        (each_flat T S items_of (λ y k. items_settled T y (streams y k) _) _ (each_ordered S stream_cmp f.streams h.1))
+        (each_flat T S items_to_come (λ y k. items_settled T y (streams y k) _) _ (each_ordered S stream_cmp f.streams h.1))
 
     tasks_all : (p : Part) → AllIn G S p → Each T (tasks_of (region_of p))
     tasks_all p h = tasks_by p.result p.faults h
@@ -200,13 +200,13 @@ module _ (w : World) (nodes : List Node) (numbered : IsNumbered nodes) where
   untagged_from n os h = each_map (λ (o : Occurrence). n ≤ o.node) (λ (o : Occurrence). n ≤ o.node) (λ o. record { node = o.node; tag = None }) (λ o k. k) os h
 
   module _ (n : ℕ) (x : Stream) (i : ℕ) (from : StreamFrom n x) where
-    completed_found : (spot : Spot) (shape : Shape) (o : Option Cell) → FoundFrom (suc n) (suc n) (completed_item w nodes x i spot shape o)
-    completed_found spot shape None = (tt, tt)
-    completed_found spot shape (Some y) = all_complete (GroupFrom (suc n)) (StreamFrom (suc n)) spot (λ r p. object_at w nodes [] r (untagged x.field.nodes) p) (λ first all p. no_found) (λ r p. object_from_node (suc (length nodes)) n [] r (untagged x.field.nodes) p (untagged_from n x.field.nodes from)) (λ first all p. (tt, tt)) (item_shape shape) None y _
+    completed_found : (spot : Spot) (used : UsedType) (o : Option Cell) → FoundFrom (suc n) (suc n) (completed_item w nodes x i spot used o)
+    completed_found spot used None = (tt, tt)
+    completed_found spot used (Some y) = all_complete (GroupFrom (suc n)) (StreamFrom (suc n)) spot (λ r p. object_at w nodes [] r (untagged x.field.nodes) p) (λ first all p. no_found) (λ r p. object_from_node (suc (length nodes)) n [] r (untagged x.field.nodes) p (untagged_from n x.field.nodes from)) (λ first all p. (tt, tt)) (item_type used) None y _
 
     item_node_found : (spot : Spot) (k : NodeKind) → FoundFrom (suc n) (suc n) (item_of_node w nodes x i spot k)
     item_node_found spot (Fragment condition defer) = (tt, tt)
-    item_node_found spot (Field key name arguments stream) = completed_found spot (w.shape x.row.kind name) (item_cell (w.cell x.row name arguments) i)
+    item_node_found spot (Field key name arguments stream) = completed_found spot (w.field_type x.row.kind name) (item_cell (w.cell x.row name arguments) i)
 
     item_found : (o : Option Node) → FoundFrom (suc n) (suc n) (item_at w nodes x i o)
     item_found None = (tt, tt)

@@ -11,7 +11,7 @@ use Rattle.gql_tree.specs.declared.Group.{Group}
 use Rattle.gql_tree.specs.declared.Stream.{Stream}
 use Rattle.gql_tree.specs.declared.Row.{Row}
 use Rattle.gql_tree.specs.declared.Spot.{Spot}
-use Rattle.gql_model.specs.Shape.{Shape, named, list, non_null}
+use Rattle.gql_model.specs.UsedType.{UsedType, named, list, non_null}
 use Rattle.gql_model.specs.World.{Cell, truth, integer, text, ref, error, items, cells_of}
 
 -- what is deferred at objects and lists
@@ -99,7 +99,7 @@ leaf spot _ path = null_part []
 -- `streams` is the stream of a list at a path that lets so many items of so many stand in it
 module _ (spot : Spot) (object : Row → List Key → Part) (streams : ℕ → ℕ → List Key → Found) where
   -- by the type, a cell at a path; an active `@stream` lets the first items stand, of the outermost list alone
-  abbrev pub complete : Shape → Option ℕ → Cell → List Key → Part
+  abbrev pub complete : UsedType → Option ℕ → Cell → List Key → Part
   complete (non_null s) first c path = hard (fault_at spot null_message path) (complete s first c path)
   complete (named t) first (ref row) path = soft (object row path)
   complete (list s) (Some n) (items cs) path =

@@ -6,7 +6,7 @@ use Rattle.gql_model.specs.declared.schema.TypeDef.{TypeDef}
 use Rattle.gql_model.specs.declared.schema.FieldDef.{FieldDef}
 use Rattle.gql_model.specs.declared.schema.InputDef.{InputDef}
 use Rattle.gql_model.specs.declared.schema.TypeKind.TheVariants.{Scalar, Object, Enum}
-use Rattle.gql_model.specs.Shape.{Shape, named, list, non_null, shape_of}
+use Rattle.gql_model.specs.UsedType.{UsedType, named, list, non_null, used_type_of}
 use Rattle.gql_model.specs.World.{Cell, Cells, null, truth, integer, text, ref, error, items, none, more, cells_of}
 use Rattle.gql_model.specs.Tables.{Tables, TableRow, row_of}
 
@@ -51,7 +51,7 @@ module _ (s : Schema) (t : Tables) where
     FitsAll fits (more c cs) = fits c × FitsAll fits cs
 
   -- null and an error fit every type; Non-Nulls are left aside
-  abbrev pub Fits : Shape → Cell → Type 0
+  abbrev pub Fits : UsedType → Cell → Type 0
   Fits (named n) c = FitsNamed n c
   Fits (list inner) c = FitsList (Fits inner) c
   Fits (non_null inner) c = Fits inner c
@@ -64,7 +64,7 @@ IsKey name [] key = key ≡ name
 IsKey name (a ∷ as') key = (inner : List ℕ) × (key ≡ name ++ (codes "(" ++ (inner ++ codes ")")))
 
 abbrev pub FitsField : Schema → Tables → List ℕ → Cell → FieldDef → Type 0
-FitsField s t key c f = IsKey f.name f.arguments key × Fits s t (shape_of f.kind) c
+FitsField s t key c f = IsKey f.name f.arguments key × Fits s t (used_type_of f.kind) c
 
 -- a cell of a row of this type: it fits a field that has its key
 abbrev pub FitsRow : Schema → Tables → ℕ → List ℕ × Cell → Type 0

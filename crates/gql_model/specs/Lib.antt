@@ -1,6 +1,6 @@
 pub mod formers
 pub mod Lists
-pub mod Shape
+pub mod UsedType
 pub mod World
 pub mod Tables
 pub mod Lawful

@@ -66,7 +66,7 @@ module _ (w : World) (nodes : List Node) where
   -- ExecuteField, by what stands at a node
   abbrev pub executed : (Row → List Key → Part) → Row → List Key → Detail → Spot → NodeKind → Part
   executed object row path d spot (Fragment condition defer) = null_part []
-  executed object row path d spot (Field key name arguments stream) = complete spot object (stream_at row d stream) (w.shape row.kind name) (initial_count stream) (w.cell row name arguments) (path ++ Name d.key ∷ [])
+  executed object row path d spot (Field key name arguments stream) = complete spot object (stream_at row d stream) (w.field_type row.kind name) (initial_count stream) (w.cell row name arguments) (path ++ Name d.key ∷ [])
 
   abbrev pub executed_at : (Row → List Key → Part) → Row → List Key → Detail → Option Node → Part
   executed_at object row path d None = null_part []

@@ -17,7 +17,7 @@ use Rattle.gql_tree.specs.Ordered.{ordered}
 use Rattle.gql_model.specs.declared.operation.Node.{Node}
 use Rattle.gql_model.specs.declared.operation.NodeKind.{NodeKind}
 use Rattle.gql_model.specs.declared.operation.NodeKind.TheVariants.{Field, Fragment}
-use Rattle.gql_model.specs.Shape.{Shape, named, list, non_null}
+use Rattle.gql_model.specs.UsedType.{UsedType, named, list, non_null}
 use Rattle.gql_model.specs.World.{World, Cell, items, cells_of}
 use Rattle.gql_model.specs.Complete.{Part, no_found, bubble, nothing, good, null_part, complete}
 use Rattle.gql_model.specs.Objects.{node_of, fields_part, object_at}
@@ -36,10 +36,10 @@ region_of p = elim p.result [
 -- ---- items
 
 -- the type of the items of the outermost list
-abbrev pub item_shape : Shape → Shape
-item_shape (non_null s) = item_shape s
-item_shape (list s) = s
-item_shape (named t) = named t
+abbrev pub item_type : UsedType → UsedType
+item_type (non_null s) = item_type s
+item_type (list s) = s
+item_type (named t) = named t
 
 abbrev pub item_cell : Cell → ℕ → Option Cell
 item_cell (items cs) i = slice_get (cells_of cs) i
@@ -60,13 +60,13 @@ module _ (w : World) (nodes : List Node) where
   group_region g = region_of (fields_part w nodes (object_at w nodes g.owners) g.row g.path.keys no_found g.fields)
 
   -- what an item under merged nodes gives, by what stands at the list's node; inside it no field has an owner at first
-  abbrev pub completed_item : Stream → ℕ → Spot → Shape → Option Cell → Part
-  completed_item s i spot shape None = null_part []
-  completed_item s i spot shape (Some c) = complete spot (λ r p. object_at w nodes [] r (untagged s.field.nodes) p) (λ first all p. no_found) (item_shape shape) None c (s.path.keys ++ Index i ∷ [])
+  abbrev pub completed_item : Stream → ℕ → Spot → UsedType → Option Cell → Part
+  completed_item s i spot used None = null_part []
+  completed_item s i spot used (Some c) = complete spot (λ r p. object_at w nodes [] r (untagged s.field.nodes) p) (λ first all p. no_found) (item_type used) None c (s.path.keys ++ Index i ∷ [])
 
   abbrev pub item_of_node : Stream → ℕ → Spot → NodeKind → Part
   item_of_node s i spot (Fragment condition defer) = null_part []
-  item_of_node s i spot (Field key name arguments stream) = completed_item s i spot (w.shape s.row.kind name) (item_cell (w.cell s.row name arguments) i)
+  item_of_node s i spot (Field key name arguments stream) = completed_item s i spot (w.field_type s.row.kind name) (item_cell (w.cell s.row name arguments) i)
 
   abbrev pub item_at : Stream → ℕ → Option Node → Part
   item_at s i None = null_part []

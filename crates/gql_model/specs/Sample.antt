@@ -3,14 +3,14 @@ use Rattle.std.specs.Prelude.{ℕ, pos, List, [], ◌∷◌, Option, Some, None,
 use Rattle.gql_tree.specs.declared.Row.{Row}
 use Rattle.gql_model.specs.declared.operation.Node.{Node}
 use Rattle.gql_model.specs.declared.operation.NodeKind.TheVariants.{Field, Fragment}
-use Rattle.gql_model.specs.Shape.{Shape, named, list, non_null}
+use Rattle.gql_model.specs.UsedType.{UsedType, named, list, non_null}
 use Rattle.gql_model.specs.World.{World, Cell, null, integer, text, ref, error, items, none, more}
 use Rattle.gql_model.specs.Tables.{Tables, Kind, world, by_name}
 
 -- ---- type Query { hero: Person crew: [Person!] cast: [Person] none: [Person] }
 -- ---- type Person { id: ID! name: String! age: Int boom: String! }
 
-abbrev pub scalar : Shape
+abbrev pub scalar : UsedType
 scalar = named 2
 
 abbrev pub kinds : List Kind
@@ -57,8 +57,8 @@ abbrev pub deferred : Option (List ℕ) → ℕ → List ℕ → ℕ → Node
 deferred label parent children column = record { kind = Fragment None (Some (record { label = label })); parent = parent; children = children; spot = record { line = 1; column = column } }
 
 -- { hero { id } }
-abbrev pub plain : List Node
-plain = operation (1 ∷ []) ∷ field (codes "hero") 0 (2 ∷ []) 3 ∷ field (codes "id") 1 [] 10 ∷ []
+abbrev pub one_field : List Node
+one_field = operation (1 ∷ []) ∷ field (codes "hero") 0 (2 ∷ []) 3 ∷ field (codes "id") 1 [] 10 ∷ []
 
 -- { hero { id ... @defer(label:"D") { name } } }
 abbrev pub one_deferred : List Node

@@ -7,7 +7,7 @@ use Rattle.gql_model.specs.declared.syntax.Argument.{Argument}
 use Rattle.gql_model.specs.declared.schema.Schema.{Schema}
 use Rattle.gql_model.specs.declared.schema.TypeDef.{TypeDef}
 use Rattle.gql_model.specs.Lists.{keyed}
-use Rattle.gql_model.specs.Shape.{Shape, named, non_null, shape_of}
+use Rattle.gql_model.specs.UsedType.{UsedType, named, non_null, used_type_of}
 use Rattle.gql_model.specs.World.{World, Cell, null, text, error}
 
 -- a row: its id, and its cells by their keys
@@ -32,21 +32,23 @@ cell_of t r key = elim (row_of t r) [ None ↦ null | Some row ↦ elim (keyed k
 -- its name, its fields with their types, and the object types that a value of it may have
 pub record Kind : Type 0 where
   pub name : List ℕ
-  pub fields : List (List ℕ × Shape)
+  pub fields : List (List ℕ × UsedType)
   pub possible : List ℕ
 
 abbrev pub kind_of : TypeDef → Kind
-kind_of d = record { name = d.name; fields = map (λ f. (f.name, shape_of f.kind)) d.fields; possible = map (λ m. m.number) d.members }
+kind_of d = record { name = d.name; fields = map (λ f. (f.name, used_type_of f.kind)) d.fields; possible = map (λ m. m.number) d.members }
 
 -- a field that every object type has (section 4.1 of the standard)
 abbrev pub typename : List ℕ
 typename = codes "__typename"
 
-abbrev pub field_shape : List Kind → ℕ → List ℕ → Shape
-field_shape ks k name = elim (slice_get ks k) [ None ↦ named 0 | Some kind ↦ elim (keyed name kind.fields) [ None ↦ named 0 | Some s ↦ s ] ]
+-- the type that a field is declared with
+abbrev pub declared_type : List Kind → ℕ → List ℕ → UsedType
+declared_type ks k name = elim (slice_get ks k) [ None ↦ named 0 | Some kind ↦ elim (keyed name kind.fields) [ None ↦ named 0 | Some s ↦ s ] ]
 
-abbrev pub shape_in : List Kind → ℕ → List ℕ → Shape
-shape_in ks k name = cond (bytes_eq name typename) (non_null (named 0)) (field_shape ks k name)
+-- the type of a field, `__typename` among them
+abbrev pub field_type_in : List Kind → ℕ → List ℕ → UsedType
+field_type_in ks k name = cond (bytes_eq name typename) (non_null (named 0)) (declared_type ks k name)
 
 abbrev pub name_in : List Kind → ℕ → List ℕ
 name_in ks k = elim (slice_get ks k) [ None ↦ [] | Some kind ↦ kind.name ]
@@ -77,9 +79,9 @@ abbrev pub resolved : List Kind → Tables → Coercion → Row → List ℕ →
 resolved ks t coerce row name args = cond (bytes_eq name typename) (text (name_in ks row.kind)) (coerced_cell t row (coerce row.kind name args))
 
 abbrev pub world : List Kind → Tables → Coercion → World
-world ks t coerce = record { shape = shape_in ks; cell = resolved ks t coerce; fits = fits_in ks }
+world ks t coerce = record { field_type = field_type_in ks; cell = resolved ks t coerce; fits = fits_in ks }
 
--- what a schema and tables say to execution
+-- What a schema and tables say to execution. No contract names it yet: the reader of any schema will.
 abbrev pub world_of : Schema → Tables → Coercion → World
 world_of s t coerce = world (map kind_of s.types) t coerce
 

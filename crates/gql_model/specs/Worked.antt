@@ -10,15 +10,15 @@ use Rattle.gql_tree.specs.Forest.{Forest, tasks_of}
 use Rattle.gql_model.specs.declared.operation.Node.{Node}
 use Rattle.gql_model.specs.Region.{initial_region, task_region}
 use Rattle.gql_model.specs.Operations.{forest}
-use Rattle.gql_model.specs.Plain.{plain as plain_region}
+use Rattle.gql_model.specs.Plain.{plain}
 use Rattle.gql_model.specs.Sample.{service, query}
 
 abbrev pub initial : List Node → RegionResult
 initial nodes = initial_region service nodes query
 
 -- the response of plain execution
-abbrev pub plain : List Node → RegionResult
-plain nodes = plain_region service nodes query
+abbrev pub plain_response : List Node → RegionResult
+plain_response nodes = plain service nodes query
 
 -- the regions of the tasks that the initial region makes, in order
 abbrev pub next_regions : List Node → List RegionResult

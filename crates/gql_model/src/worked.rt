@@ -2,14 +2,14 @@ ghost use Rattle.std.specs.Prelude.{◌≡◌, pos, [], ◌∷◌, Some, codes};
 ghost use Rattle.gql_tree.specs.declared.Key.TheVariants.{Name, Index};
 ghost use Rattle.gql_tree.specs.declared.Value.TheVariants as v;
 ghost use Rattle.gql_tree.specs.declared.Outcome.TheVariants.{Good, Failed};
-ghost use Rattle.gql_model.specs.Sample.{plain as plain_nodes, one_deferred, bubbling, null_item, shared, stream, type_names, failing};
+ghost use Rattle.gql_model.specs.Sample.{one_field, one_deferred, bubbling, null_item, shared, stream, type_names, failing};
 ghost use Rattle.gql_model.specs.Plain.{kept};
-ghost use Rattle.gql_model.specs.Worked.{initial, plain, outcomes, faults, one, two, fault, grouped, labelled, counted};
+ghost use Rattle.gql_model.specs.Worked.{initial, plain_response, outcomes, faults, one, two, fault, grouped, labelled, counted};
 
 /// The regions that worked operations have by the definitions.
 pub fn worked_regions()
     // { hero { id } }
-    ensures plain { (initial plain_nodes).outcome ≡ Good (one (codes "hero") (one (codes "id") (v.Text (codes "1")))) }
+    ensures plain { (initial one_field).outcome ≡ Good (one (codes "hero") (one (codes "id") (v.Text (codes "1")))) }
 
     // { hero { id boom ... @defer { name } } }: the null goes up to the hero, and nothing is deferred in it
     ensures bubbled { (initial bubbling).outcome ≡ Good (one (codes "hero") v.Null) }
@@ -48,19 +48,19 @@ pub fn worked_regions()
 /// The responses that worked operations have where no directive waits.
 pub fn worked_plain()
     // { hero { id ... @defer(label:"D") { name } } }
-    ensures deferred { (plain one_deferred).outcome
+    ensures deferred { (plain_response one_deferred).outcome
         ≡ Good (one (codes "hero") (two (codes "id") (v.Text (codes "1")) (codes "name") (v.Text (codes "Luke")))) }
-    ensures deferred_groups { grouped (plain one_deferred) ≡ [] }
-    ensures deferred_fragments { labelled (plain one_deferred) ≡ [] }
+    ensures deferred_groups { grouped (plain_response one_deferred) ≡ [] }
+    ensures deferred_fragments { labelled (plain_response one_deferred) ≡ [] }
 
     // { hero { id ... @defer(label:"D") { boom } } }: the null of the piece goes up to the hero
-    ensures failing { (plain failing).outcome ≡ Good (one (codes "hero") v.Null) }
-    ensures failing_faults { (plain failing).faults
+    ensures failing { (plain_response failing).outcome ≡ Good (one (codes "hero") v.Null) }
+    ensures failing_faults { (plain_response failing).faults
         ≡ fault (codes "bang") 37 (Name (codes "hero") ∷ Name (codes "boom") ∷ []) ∷ [] }
 
     // { crew @stream(initialCount:1) { name } }: the null of the third item goes up to the list
-    ensures streamed { (plain stream).outcome ≡ Good (one (codes "crew") v.Null) }
-    ensures streams { counted (plain stream) ≡ [] }
+    ensures streamed { (plain_response stream).outcome ≡ Good (one (codes "crew") v.Null) }
+    ensures streams { counted (plain_response stream) ≡ [] }
 
     // an error at `hero` stands in {"hero":null}, one below it doesn't
     ensures kept { kept (one (codes "hero") v.Null)

@@ -28,7 +28,7 @@ use Rattle.gql_tree.specs.Flat.{Layer}
 use Rattle.gql_tree.specs.FromJson.{value_of}
 use Rattle.gql_tree.specs.Json.{data_step, data_of}
 use Rattle.gql_payload.specs.PayloadText as text
-use Rattle.gql_payload.specs.PayloadText.{members, array, unless_empty, if_some, number, key_data, path_data, fault_data, pending_data, fields_data, items_data, entry_data, completed_data, payload_data, payload_text}
+use Rattle.gql_payload.specs.PayloadText.{present, array, unless_empty, if_some, number, key_data, path_data, fault_data, pending_data, fields_data, items_data, entry_data, completed_data, payload_data, payload_text}
 use Rattle.gql_tree.specs.Same.{SameItems, SameMaybe}
 use Rattle.gql_tree.specs.Sound.{is_object, is_object_or_null, IsLocated, IsOfFields, IsSoundEntry, IsSound, SameContent, SameEntries, SamePayload}
 use Rattle.gql_tree.proofs.Marks.{same-value_of}
@@ -51,7 +51,7 @@ same_ordering Less x = refl
 same_ordering Equal x = refl
 same_ordering Greater x = refl
 
-at-members : (k : List ℕ) (ms : List Part) → get_member k (members ms) ≡ part_at k ms
+at-members : (k : List ℕ) (ms : List Part) → get_member k (present ms) ≡ part_at k ms
 at-members k [] = refl
 at-members k ((n, None) ∷ ms) = at-members k ms ∙ sym (same_ordering (slice_cmp nat_cmp k n) (part_at k ms))
 at-members k ((n, Some d) ∷ ms) = ap (λ r. match_ordering (slice_cmp nat_cmp k n) r (Some d) r) (at-members k ms)
@@ -61,7 +61,7 @@ or_none None = refl
 or_none (Some x) = refl
 
 -- a part that may be left out
-found : (k : List ℕ) (ms : List Part) (o : Option Data) → part_at k ms ≡ option_or o None → get_member k (members ms) ≡ o
+found : (k : List ℕ) (ms : List Part) (o : Option Data) → part_at k ms ≡ option_or o None → get_member k (present ms) ≡ o
 found k ms o h = at-members k ms ∙ (h ∙ or_none o)
 
 -- ---- lists
@@ -101,7 +101,7 @@ optional_path : (o : Option Path) → IfSome o IsTypedPath → optional path (un
 optional_path None h = refl
 optional_path (Some p) h = ap (option_map Some) (path_back p h)
 
-location_back : (line column : ℕ) → line < 2 ^ 32 → column < 2 ^ 32 → 0 < line → 0 < column → location (text.location line column) ≡ Some (record { line = line; column = column })
+location_back : (line column : ℕ) → line < 2 ^ 32 → column < 2 ^ 32 → 0 < line → 0 < column → location (text.location_data line column) ≡ Some (record { line = line; column = column })
 location_back line column hl hc kl kc = rw (counted_back line hl kl, counted_back column hc kc) refl
 
 positive : (n : ℕ) → (n ≡ 0 → ⊥) → 0 < n
@@ -109,7 +109,7 @@ positive zero h = absurd (h refl)
 positive (suc n) h = omega arith
 
 located_by : (b : Bool) (line column : ℕ) → line < 2 ^ 32 → column < 2 ^ 32 → (line == 0) ≡ b → (line ≡ 0) ↔ (column ≡ 0)
-    → locations (unless_null (elim b [ true ↦ None | false ↦ Some (json.array (json.item (text.location line column) json.no_items)) ])) ≡ Some (record { line = line; column = column })
+    → locations (unless_null (elim b [ true ↦ None | false ↦ Some (json.array (json.item (text.location_data line column) json.no_items)) ])) ≡ Some (record { line = line; column = column })
 located_by true line column hl hc e h = let z : line ≡ 0 = eqb-true line 0 e in rw (z, h.0 z) refl
 located_by false line column hl hc e h =
     let kl : 0 < line = positive line (λ z. eqb-false line 0 e z) in
@@ -117,7 +117,7 @@ located_by false line column hl hc e h =
 
 fault_back : (f : Fault) → IsLocated f × IsTypedFault f → fault (fault_data f) ≡ Some f
 fault_back f h =
-    rw (found (codes "message") (fault_parts f) (Some (json.string f.message)) refl, found (codes "locations") (fault_parts f) (text.locations f.line f.column) refl, found (codes "path") (fault_parts f) (if_some path_data f.path) refl)
+    rw (found (codes "message") (fault_parts f) (Some (json.string f.message)) refl, found (codes "locations") (fault_parts f) (text.locations_data f.line f.column) refl, found (codes "path") (fault_parts f) (if_some path_data f.path) refl)
     (rw (located_by (f.line == 0) f.line f.column h.1.line h.1.column refl h.0, optional_path f.path h.1.path) refl)
 
 faults_back : (fs : List Fault) → AllByRecursion IsLocated fs → AllByRecursion IsTypedFault fs → optional_list fault (unless_null (unless_empty fault_data fs)) ≡ Some fs

@@ -9,14 +9,14 @@ use Rattle.gql_tree.specs.declared.delivery.Entry.{Entry}
 use Rattle.gql_tree.specs.declared.delivery.Completed.{Completed}
 use Rattle.gql_tree.specs.declared.delivery.Payload.{Payload}
 use Rattle.gql_tree.specs.Json.{data_of}
-use Rattle.gql_payload.specs.PayloadText.{unless_empty, if_some, key_data, path_data, locations, fault_data, pending_data, fields_data, items_data, entry_data, completed_data}
+use Rattle.gql_payload.specs.PayloadText.{unless_empty, if_some, key_data, path_data, locations_data, fault_data, pending_data, fields_data, items_data, entry_data, completed_data}
 
 abbrev pub Part : Type 0
 Part = List ℕ × Option Data
 
 abbrev pub fault_parts : Fault → List Part
 fault_parts f =
-    (codes "locations", locations f.line f.column)
+    (codes "locations", locations_data f.line f.column)
     ∷ (codes "message", Some (json.string f.message))
     ∷ (codes "path", if_some path_data f.path) ∷ []
 

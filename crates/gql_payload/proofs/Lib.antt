@@ -2,6 +2,7 @@ mod Texts
 pub mod Contents
 pub mod Members
 pub mod Plain
+pub mod Numbers
 pub mod Line
 pub mod Utf8
 pub mod Utf8Content

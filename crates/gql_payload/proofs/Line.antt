@@ -1,17 +1,19 @@
 -- Compact JSON has no control character, so no end of line.
-use Rattle.std.proofs.Common.{◌≡◌, ◌≢◌, ℕ, zero, suc, ◌+◌, ◌≤◌, ◌<◌, ◌/◌, ◌%◌, List, [], ◌∷◌, ◌++◌, Bool, true, false, cond, ◌==◌, nat_lt, ℤ, pos, negsuc, refl, arith, rules, decimal}
+use Rattle.std.proofs.Common.{◌≢◌, ℕ, ◌+◌, ◌≤◌, ◌<◌, ◌/◌, ◌%◌, List, [], ◌∷◌, ◌++◌, Bool, true, false, nat_lt, arith, rules}
 use borrow.Author.Tests.{ltb-true, ltb-false}
+use Rattle.std.proofs.lemmas.Bool.{cond_both}
 use Rattle.std.proofs.lemmas.Bool.Decides.{nat_tests}
 use Rattle.std.proofs.lemmas.List.Elements.{All-from_recursion, All-weaker}
 use Rattle.std.specs.Char.{digit_char}
-use Rattle.std.specs.Fmt.{digits, digits_onto, digit_glyph, signed_decimal}
+use Rattle.std.specs.Fmt.{digit_glyph}
 use Rattle.std.specs.List.{AllByRecursion}
 use Rattle.json.specs.Print.{escape_letter, escape_byte, escape, quoted}
-use Rattle.serde_json.specs.Data.{Num, unsigned, negative, float, Data, null, boolean, number, string, array, object, Items, no_items, item, Members, no_members, member}
+use Rattle.serde_json.specs.Data.{Num, Data, null, boolean, number, string, array, object, Items, no_items, item, Members, no_members, member}
 use Rattle.serde_json.specs.Written.{number_text, comma_if, compact_text, items_text, members_text}
 use Rattle.gql_tree.specs.declared.delivery.Payload.{Payload}
 use Rattle.gql_payload.specs.PayloadText.{payload_data, payload_text}
 use Rattle.gql_payload.specs.OneLine.{IsOneLine}
+use Rattle.gql_payload.proofs.Numbers.{number_each}
 
 -- each byte is a space or above
 abbrev Shows : List ℕ → Type 0
@@ -21,34 +23,13 @@ both : (a b : List ℕ) → Shows a → Shows b → Shows (a ++ b)
 both [] b h k = k
 both (x ∷ a) b h k = (h.0, both a b h.1 k)
 
-chosen : {A : Type 0} (P : A → Type 0) (b : Bool) (x y : A) → (b ≡ true → P x) → (b ≡ false → P y) → P (cond b x y)
-chosen P true x y yes' no' = yes' refl
-chosen P false x y yes' no' = no' refl
-
 -- ---- numbers
 
 glyph_shows : (d : ℕ) → 32 ≤ digit_glyph false d
-glyph_shows d = chosen (λ x. 32 ≤ x) (nat_lt d 10) (48 + d) (87 + d) (λ _. omega arith) (λ _. omega arith)
-
-onto_shows : (k n : ℕ) (acc : List ℕ) → Shows acc → Shows (digits_onto k 10 false n acc)
-onto_shows zero n acc h = h
-onto_shows (suc k) n acc h =
-    chosen Shows (n / 10 == 0) (digit_glyph false (n % 10) ∷ acc) (digits_onto k 10 false (n / 10) (digit_glyph false (n % 10) ∷ acc))
-    (λ _. (glyph_shows (n % 10), h))
-    (λ _. onto_shows k (n / 10) (digit_glyph false (n % 10) ∷ acc) (glyph_shows (n % 10), h))
-
-decimal_shows : (n : ℕ) → Shows (decimal n)
-unfolding digits
-decimal_shows n = onto_shows 64 n [] tt
-
-signed_shows : (z : ℤ) → Shows (signed_decimal z)
-signed_shows (pos n) = decimal_shows n
-signed_shows (negsuc n) = (omega arith, decimal_shows (suc n))
+glyph_shows d = cond_both (nat_lt d 10) (48 + d) (87 + d) (λ x. 32 ≤ x) (λ _. omega arith) (λ _. omega arith)
 
 number_shows : (n : Num) → Shows (number_text n)
-number_shows (unsigned n) = decimal_shows n
-number_shows (negative z) = signed_shows z
-number_shows (float x) = tt
+number_shows = number_each (λ b. 32 ≤ b) (λ n. glyph_shows (n % 10)) (omega arith)
 
 -- ---- strings
 
@@ -56,14 +37,14 @@ letter_shows : (x : ℕ) → 0 < escape_letter x → 32 ≤ escape_letter x
 letter_shows x h = grind (arith, nat_tests)
 
 char_shows : (d : ℕ) → 32 ≤ digit_char d
-char_shows d = chosen (λ x. 32 ≤ x) (nat_lt d 10) (48 + d) (87 + d) (λ _. omega arith) (λ _. omega arith)
+char_shows d = cond_both (nat_lt d 10) (48 + d) (87 + d) (λ x. 32 ≤ x) (λ _. omega arith) (λ _. omega arith)
 
 byte_shows : (x : ℕ) → Shows (escape_byte x)
 unfolding escape_byte
 byte_shows x =
-    chosen Shows (nat_lt 0 (escape_letter x)) _ _
+    cond_both (nat_lt 0 (escape_letter x)) _ _ Shows
     (λ h. (omega arith, (letter_shows x (ltb-true 0 (escape_letter x) h), tt)))
-    (λ _. chosen Shows (nat_lt x 32) _ _
+    (λ _. cond_both (nat_lt x 32) _ _ Shows
     (λ _. (omega arith, (omega arith, (omega arith, (omega arith, (char_shows (x / 16), (char_shows (x % 16), tt)))))))
     (λ h. (ltb-false x 32 h, tt)))
 

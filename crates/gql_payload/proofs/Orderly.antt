@@ -1,5 +1,5 @@
 -- The JSON of a payload is orderly: its numbers are read back, and the names of its objects ascend.
-use Rattle.std.proofs.Common.{◌≡◌, ℕ, ◌^◌, ◌<◌, List, [], ◌∷◌, map, refl, sym, ◌∙◌, ap, subst, Bool, true, false, ◌&&◌, ◌==◌, IsTrue, Option, Some, None, Ordering, Less, Equal, Greater, nat_cmp, ltb-true, arith}
+use Rattle.std.proofs.Common.{◌≡◌, ℕ, ◌^◌, ◌<◌, List, [], ◌∷◌, map, refl, sym, ◌∙◌, ap, subst, Bool, true, false, ◌==◌, IsTrue, Option, Some, None, Ordering, Less, Equal, Greater, nat_cmp, ltb-true, arith}
 use Rattle.std.specs.Prelude.{ℤ, pos, negsuc, ⊤, IfSome}
 use Rattle.std.specs.List.{AllByRecursion}
 use Rattle.std.specs.Ordering.{match_ordering, ordering_reverse}
@@ -24,7 +24,7 @@ use Rattle.gql_tree.specs.declared.delivery.Completed.{Completed}
 use Rattle.gql_tree.specs.declared.delivery.Payload.{Payload}
 use Rattle.gql_tree.specs.Names.{apart}
 use Rattle.gql_tree.specs.Json.{put_all, data_step, data_of}
-use Rattle.gql_payload.specs.PayloadText.{members, unless_empty, if_some, key_data, path_data, location, fault_data, pending_data, fields_data, items_data, entry_data, completed_data, payload_data}
+use Rattle.gql_payload.specs.PayloadText.{present, unless_empty, if_some, key_data, path_data, location_data, fault_data, pending_data, fields_data, items_data, entry_data, completed_data, payload_data}
 use Rattle.gql_tree.specs.Typed.{fits, all_items, all_members, typed_step, is_typed}
 use Rattle.gql_tree.proofs.Json.{named_map}
 use Rattle.gql_tree.proofs.Marks.{left_of, right_of}
@@ -109,28 +109,20 @@ abbrev AreParts : List Part → Type 0
 AreParts [] = ⊤
 AreParts (m ∷ ms) = IsPart m.1 × AreParts ms
 
-first : (a b : Bool) → a && b ≡ true → a ≡ true
-first true b h = refl
-first false b h = absurd (cc)
-
-second : (a b : Bool) → a && b ≡ true → b ≡ true
-second true b h = h
-second false b h = absurd (cc)
-
 less_is : (o : Ordering) → is_less o ≡ true → o ≡ Less
 less_is Less h = refl
 less_is Equal h = absurd (cc)
 less_is Greater h = absurd (cc)
 
-parts_lead : (k : List ℕ) (ms : List Part) → leads k ms ≡ true → Leads k (members ms)
+parts_lead : (k : List ℕ) (ms : List Part) → leads k ms ≡ true → Leads k (present ms)
 parts_lead k [] h = tt
-parts_lead k ((n, None) ∷ ms) h = parts_lead k ms (second _ _ h)
-parts_lead k ((n, Some d) ∷ ms) h = (less_is (slice_cmp nat_cmp k n) (first _ _ h), parts_lead k ms (second _ _ h))
+parts_lead k ((n, None) ∷ ms) h = parts_lead k ms (right_of _ _ h)
+parts_lead k ((n, Some d) ∷ ms) h = (less_is (slice_cmp nat_cmp k n) (left_of _ _ h), parts_lead k ms (right_of _ _ h))
 
-members_orderly : (ms : List Part) → ascends ms ≡ true → AreParts ms → AreOrderlyMembers (members ms)
+members_orderly : (ms : List Part) → ascends ms ≡ true → AreParts ms → AreOrderlyMembers (present ms)
 members_orderly [] h k = tt
-members_orderly ((n, None) ∷ ms) h k = members_orderly ms (second _ _ h) k.1
-members_orderly ((n, Some d) ∷ ms) h k = (k.0, parts_lead n ms (first _ _ h), members_orderly ms (second _ _ h) k.1)
+members_orderly ((n, None) ∷ ms) h k = members_orderly ms (right_of _ _ h) k.1
+members_orderly ((n, Some d) ∷ ms) h k = (k.0, parts_lead n ms (left_of _ _ h), members_orderly ms (right_of _ _ h) k.1)
 
 array_orderly : {X : Type 0} (P : X → Type 0) (f : X → Data) → ((x : X) → P x → IsOrderly (f x)) → (xs : List X) → AllByRecursion P xs → AreOrderlyItems (items_of (map f xs))
 array_orderly P f each [] h = tt
@@ -164,7 +156,7 @@ key_orderly (Index i) h = wide i h
 path_orderly : (p : Path) → IsTypedPath p → IsOrderly (path_data p)
 path_orderly p h = array_orderly IsTypedKey key_data key_orderly p.keys h
 
-located : (b : Bool) (line column : ℕ) → line < 2 ^ 32 → column < 2 ^ 32 → IsPart (elim b [ true ↦ None | false ↦ Some (json.array (json.item (location line column) json.no_items)) ])
+located : (b : Bool) (line column : ℕ) → line < 2 ^ 32 → column < 2 ^ 32 → IsPart (elim b [ true ↦ None | false ↦ Some (json.array (json.item (location_data line column) json.no_items)) ])
 located true line column h k = tt
 located false line column h k = ((wide column k, (refl, tt), (wide line h, tt, tt)), tt)
 

@@ -15,7 +15,7 @@ use Rattle.gql_tree.specs.declared.delivery.Content.TheVariants.{Fields, Items}
 use Rattle.gql_tree.specs.declared.delivery.Completed.{Completed}
 use Rattle.gql_tree.specs.declared.delivery.Payload.{Payload}
 use Rattle.gql_tree.specs.Json.{data_of}
-use Rattle.gql_payload.specs.PayloadText.{members, unless_empty, if_some, key_data, path_data, location, locations, fault_data, pending_data, fields_data, items_data, entry_data, completed_data, payload_data}
+use Rattle.gql_payload.specs.PayloadText.{present, unless_empty, if_some, key_data, path_data, location_data, locations_data, fault_data, pending_data, fields_data, items_data, entry_data, completed_data, payload_data}
 use Rattle.gql_tree.proofs.Json.{no_float}
 use Rattle.gql_payload.proofs.Contents.{Part, fault_parts, pending_parts, entry_parts, completed_parts, payload_parts}
 
@@ -32,7 +32,7 @@ ArePlain (m ∷ ms) = IsPlain m.1 × ArePlain ms
 or_false : (a b : Bool) → a ≡ false → b ≡ false → a || b ≡ false
 or_false a b e f = rw (e, f) refl
 
-pub members_plain : (ms : List Part) → ArePlain ms → members_have_float (members ms) ≡ false
+pub members_plain : (ms : List Part) → ArePlain ms → members_have_float (present ms) ≡ false
 members_plain [] h = refl
 members_plain ((name, None) ∷ ms) h = members_plain ms h.1
 members_plain ((name, Some d) ∷ ms) h = or_false _ _ h.0 (members_plain ms h.1)
@@ -56,11 +56,11 @@ key_plain (Index i) = refl
 pub path_plain : (p : Path) → has_float (path_data p) ≡ false
 path_plain p = items_plain key_data p.keys key_plain
 
-located : (b : Bool) (line column : ℕ) → IsPlain (elim b [ true ↦ None | false ↦ Some (json.array (json.item (location line column) json.no_items)) ])
+located : (b : Bool) (line column : ℕ) → IsPlain (elim b [ true ↦ None | false ↦ Some (json.array (json.item (location_data line column) json.no_items)) ])
 located true line column = tt
 located false line column = refl
 
-locations_plain : (line column : ℕ) → IsPlain (locations line column)
+locations_plain : (line column : ℕ) → IsPlain (locations_data line column)
 locations_plain line column = located (line == 0) line column
 
 pub fault_plain : (f : Fault) → has_float (fault_data f) ≡ false

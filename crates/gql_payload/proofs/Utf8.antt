@@ -1,14 +1,15 @@
 -- The compact text of a datum whose strings and names are UTF-8 is UTF-8.
-use Rattle.std.proofs.Common.{ℕ, zero, suc, ◌+◌, ◌<◌, ◌/◌, ◌%◌, List, [], ◌∷◌, ◌++◌, Bool, true, false, ◌==◌, ℤ, pos, negsuc, subst, arith, decimal, IsUtf8}
+use Rattle.std.proofs.Common.{ℕ, ◌+◌, ◌<◌, ◌%◌, List, [], ◌∷◌, ◌++◌, Bool, true, false, subst, arith, decimal, IsUtf8}
 use Rattle.std.specs.Prelude.{nat_lt, ⊤}
 use Rattle.std.proofs.lemmas.Bool.{cond_both}
 use Rattle.std.proofs.lemmas.Str.{IsUtf8-append, IsUtf8-nil, IsUtf8-encode, encode_ascii}
 use lib.Utf8.{low_scalar}
-use Rattle.std.specs.Fmt.{digits, digits_onto, digit_glyph, signed_decimal}
+use Rattle.std.specs.Fmt.{digit_glyph}
 use Rattle.std.specs.List.{AllByRecursion}
 use Rattle.json.proofs.Printed.Utf8.{IsUtf8-quoted, IsUtf8-boolean}
-use Rattle.serde_json.specs.Data.{Num, unsigned, negative, float, Data, null, boolean, number, string, array, object, Items, no_items, item, Members, no_members, member}
+use Rattle.serde_json.specs.Data.{Num, Data, null, boolean, number, string, array, object, Items, no_items, item, Members, no_members, member}
 use Rattle.serde_json.specs.Written.{number_text, comma_if, compact_text, items_text, members_text}
+use Rattle.gql_payload.proofs.Numbers.{decimal_each, number_each}
 
 -- the strings and the names of a datum are UTF-8
 abbrev mutual
@@ -48,25 +49,11 @@ IsUtf8-AreAscii (x ∷ xs) h = ascii_then x xs h.0 (IsUtf8-AreAscii xs h.1)
 glyph_small : (n : ℕ) → digit_glyph false (n % 10) < 128
 glyph_small n = cond_both (nat_lt (n % 10) 10) (48 + n % 10) (87 + n % 10) (λ x. x < 128) (λ _. omega arith) (λ _. omega arith)
 
-onto_ascii : (k n : ℕ) (behind : List ℕ) → AreAscii behind → AreAscii (digits_onto k 10 false n behind)
-onto_ascii zero n behind h = h
-onto_ascii (suc k) n behind h =
-    cond_both (n / 10 == 0) (digit_glyph false (n % 10) ∷ behind) (digits_onto k 10 false (n / 10) (digit_glyph false (n % 10) ∷ behind)) AreAscii
-    (λ _. (glyph_small n, h))
-    (λ _. onto_ascii k (n / 10) (digit_glyph false (n % 10) ∷ behind) (glyph_small n, h))
-
 pub decimal_ascii : (n : ℕ) → AreAscii (decimal n)
-unfolding digits
-decimal_ascii n = onto_ascii 64 n [] tt
-
-signed_ascii : (z : ℤ) → AreAscii (signed_decimal z)
-signed_ascii (pos n) = decimal_ascii n
-signed_ascii (negsuc n) = (omega arith, decimal_ascii (suc n))
+decimal_ascii = decimal_each (λ b. b < 128) glyph_small
 
 number_ascii : (n : Num) → AreAscii (number_text n)
-number_ascii (unsigned n) = decimal_ascii n
-number_ascii (negative z) = signed_ascii z
-number_ascii (float x) = tt
+number_ascii = number_each (λ b. b < 128) glyph_small (omega arith)
 
 -- ---- the whole text
 

@@ -20,13 +20,13 @@ use Rattle.gql_tree.specs.Json.{data_of}
 -- ---- members that may be left out
 
 -- the members that have a datum, in the order given
-abbrev pub members : List (List ℕ × Option Data) → Members
-members [] = json.no_members
-members (m ∷ ms) = elim m.1 [ None ↦ members ms | Some d ↦ json.member m.0 d (members ms) ]
+abbrev pub present : List (List ℕ × Option Data) → Members
+present [] = json.no_members
+present (m ∷ ms) = elim m.1 [ None ↦ present ms | Some d ↦ json.member m.0 d (present ms) ]
 
 -- an object of them
-abbrev pub object : List (List ℕ × Option Data) → Data
-object ms = json.object (members ms)
+abbrev pub object_with : List (List ℕ × Option Data) → Data
+object_with ms = json.object (present ms)
 
 -- an array of a datum for each
 abbrev pub array : {X : Type 0} → (X → Data) → List X → Data
@@ -58,19 +58,19 @@ abbrev pub path_data : Path → Data
 path_data p = array key_data p.keys
 
 -- one location
-abbrev pub location : ℕ → ℕ → Data
-location line column = object (
+abbrev pub location_data : ℕ → ℕ → Data
+location_data line column = object_with (
     (codes "column", Some (number column))
     ∷ (codes "line", Some (number line)) ∷ [])
 
 -- a list of one location; line 0 means that there is none
-abbrev pub locations : ℕ → ℕ → Option Data
-locations line column = elim (line == 0) [ true ↦ None | false ↦ Some (json.array (json.item (location line column) json.no_items)) ]
+abbrev pub locations_data : ℕ → ℕ → Option Data
+locations_data line column = elim (line == 0) [ true ↦ None | false ↦ Some (json.array (json.item (location_data line column) json.no_items)) ]
 
 -- an error, its locations and its path left out where it has none
 abbrev pub fault_data : Fault → Data
-fault_data f = object (
-    (codes "locations", locations f.line f.column)
+fault_data f = object_with (
+    (codes "locations", locations_data f.line f.column)
     ∷ (codes "message", Some (json.string f.message))
     ∷ (codes "path", if_some path_data f.path) ∷ [])
 
@@ -78,7 +78,7 @@ fault_data f = object (
 
 -- the announcement of an id, its label left out where it has none
 abbrev pub pending_data : Pending → Data
-pending_data p = object (
+pending_data p = object_with (
     (codes "id", Some (json.string p.id))
     ∷ (codes "label", if_some json.string p.label)
     ∷ (codes "path", Some (path_data p.path)) ∷ [])
@@ -95,7 +95,7 @@ items_data (Items xs) = Some (array data_of xs)
 
 -- data of an announced id: fields or items; no errors and an empty sub-path are left out
 abbrev pub entry_data : Entry → Data
-entry_data e = object (
+entry_data e = object_with (
     (codes "data", fields_data e.content)
     ∷ (codes "errors", unless_empty fault_data e.errors)
     ∷ (codes "id", Some (json.string e.id))
@@ -104,7 +104,7 @@ entry_data e = object (
 
 -- the end of an id; no errors are left out
 abbrev pub completed_data : Completed → Data
-completed_data c = object (
+completed_data c = object_with (
     (codes "errors", unless_empty fault_data c.errors)
     ∷ (codes "id", Some (json.string c.id)) ∷ [])
 
@@ -113,7 +113,7 @@ completed_data c = object (
 -- One message of an answer. `data` may be null; it is left out in a later payload, and `hasNext`
 -- where the answer is one payload.
 abbrev pub payload_data : Payload → Data
-payload_data p = object (
+payload_data p = object_with (
     (codes "completed", unless_empty completed_data p.completed)
     ∷ (codes "data", if_some data_of p.initial)
     ∷ (codes "errors", unless_empty fault_data p.errors)

@@ -66,6 +66,7 @@ fields d = option_and_then (λ ms. value (object ms)) (as_object d)
 abbrev pub small : ℕ → Option ℕ
 small n = cond (nat_lt n (2 ^ 32)) (Some n) None
 
+-- the number of a datum that is one
 abbrev pub whole : Data → Option ℕ
 whole d = option_and_then small (option_and_then as_u64 (as_number d))
 
@@ -78,6 +79,7 @@ abbrev pub key : Data → Option Key
 key (string s) = Some (Name s)
 key d = option_map Index (whole d)
 
+-- a list of keys
 abbrev pub path : Data → Option Path
 path d = option_map (λ keys. record { keys = keys }) (list_of key d)
 
@@ -93,10 +95,12 @@ abbrev pub first_location : json_items → Option Spot
 first_location no_items = Some (record { line = 0; column = 0 })
 first_location (item d ds) = location d
 
+-- the location of an error: the first that is listed, line 0 and column 0 where it has none
 abbrev pub locations : Option Data → Option Spot
 locations None = Some (record { line = 0; column = 0 })
 locations (Some d) = option_and_then first_location (as_array d)
 
+-- a message, with a location and a path where they are there
 abbrev pub fault : Data → Option Fault
 fault d =
     option_and_then (λ message. option_and_then (λ spot. option_map (λ path. record { message = message; line = spot.line; column = spot.column; path = path })
@@ -106,6 +110,7 @@ fault d =
 
 -- ---- incremental delivery
 
+-- an id and a path, with a label where it is there
 abbrev pub pending : Data → Option Pending
 pending d =
     option_and_then (λ id. option_and_then (λ path. option_map (λ label. record { id = id; path = path; label = label })
@@ -119,6 +124,7 @@ content (Some d) None = option_map Fields (fields d)
 content None (Some d) = option_map Items (list_of value d)
 content _ _ = None
 
+-- an id and its content, with a sub-path and errors where they are there
 abbrev pub entry : Data → Option Entry
 entry d =
     option_and_then (λ id. option_and_then (λ keys. option_and_then (λ content. option_map (λ errors. record { id = id; sub_path = record { keys = keys }; content = content; errors = errors })
@@ -127,6 +133,7 @@ entry d =
     (optional_list key (unless_null (get (codes "subPath") d))))
     (required as_str (get (codes "id") d))
 
+-- an id, with errors where they are there
 abbrev pub completed : Data → Option Completed
 completed d =
     option_and_then (λ id. option_map (λ errors. record { id = id; errors = errors })
@@ -141,22 +148,29 @@ initial None = Some None
 initial (Some null) = Some (Some Value.Null)
 initial (Some d) = option_map Some (fields d)
 
--- each member of a payload
+-- ---- each member of a payload
+
+-- `completed`
 abbrev pub completed_of : Data → Option (List Completed)
 completed_of d = optional_list completed (unless_null (get (codes "completed") d))
 
+-- `data`
 abbrev pub initial_of : Data → Option (Option Value)
 initial_of d = initial (get (codes "data") d)
 
+-- `errors`
 abbrev pub errors_of : Data → Option (List Fault)
 errors_of d = optional_list fault (unless_null (get (codes "errors") d))
 
+-- `hasNext`
 abbrev pub has_next_of : Data → Option (Option Bool)
 has_next_of d = optional as_bool (unless_null (get (codes "hasNext") d))
 
+-- `incremental`
 abbrev pub incremental_of : Data → Option (List Entry)
 incremental_of d = optional_list entry (unless_null (get (codes "incremental") d))
 
+-- `pending`
 abbrev pub pending_of : Data → Option (List Pending)
 pending_of d = optional_list pending (unless_null (get (codes "pending") d))
 

@@ -18,8 +18,6 @@ mod parts;
 mod read;
 mod refusal;
 mod report;
-#[cfg(test)]
-mod tests;
 mod text;
 
 pub use laws::{

@@ -5,7 +5,7 @@ ghost use Rattle.std.specs.Prelude.{◌≡◌, ℕ, Some, IfOk, OnOk, option_map
 ghost use Rattle.serde_json.specs.Data.{boolean, string};
 ghost use Rattle.serde_json.specs.View.{view};
 ghost use Rattle.gql_tree.specs.Json.{data_of};
-ghost use Rattle.gql_payload.specs.PayloadText.{key_data, path_data, location, locations, fault_data, pending_data, fields_data, items_data, entry_data, completed_data, payload_data};
+ghost use Rattle.gql_payload.specs.PayloadText.{key_data, path_data, location_data, locations_data, fault_data, pending_data, fields_data, items_data, entry_data, completed_data, payload_data};
 ghost use Rattle.gql_tree.specs.Typed.{IsTypedValue, IsTypedKey, IsTypedPath, IsTypedFault, IsTypedPending, HasTypedFields, HasTypedItems, IsTypedEntry, IsTypedCompleted, IsTypedPayload};
 
 use crate::parts::{ToSerde, array, if_some, put_some, unless_empty};
@@ -57,8 +57,8 @@ impl ToSerde for Path {
 }
 
 /// A place in the text of a request.
-fn location(alloc: Global, line: u32, column: u32) -> Result<Value, NoMemory>
-    ensures { IfOk result (λ json. view json ≡ location line column) }
+fn location_data(alloc: Global, line: u32, column: u32) -> Result<Value, NoMemory>
+    ensures { IfOk result (λ json. view json ≡ location_data line column) }
 {
     let mut map = Map::new(alloc);
     put_some(&mut map, alloc, "line", Some(Value::from(line)))?;
@@ -67,14 +67,14 @@ fn location(alloc: Global, line: u32, column: u32) -> Result<Value, NoMemory>
 }
 
 /// The list of an error's one place; line 0 means that it has none.
-fn locations(alloc: Global, line: u32, column: u32) -> Result<Option<Value>, NoMemory>
-    ensures { IfOk result (λ json. option_map view json ≡ locations line column) }
+fn locations_data(alloc: Global, line: u32, column: u32) -> Result<Option<Value>, NoMemory>
+    ensures { IfOk result (λ json. option_map view json ≡ locations_data line column) }
 {
     if line == 0 {
         return Ok(None);
     }
     let mut list = Vec::new(alloc);
-    list.push(location(alloc, line, column)?)?;
+    list.push(location_data(alloc, line, column)?)?;
     Ok(Some(Value::Array(list)))
 }
 
@@ -86,7 +86,7 @@ impl ToSerde for Fault {
     fn to_serde(&self, alloc: Global) -> Result<Value, NoMemory> {
         let path = if_some(alloc, &self.path)?;
         let message = self.message.to_serde(alloc)?;
-        let locations = locations(alloc, self.line, self.column)?;
+        let locations = locations_data(alloc, self.line, self.column)?;
         let mut map = Map::new(alloc);
         put_some(&mut map, alloc, "path", path)?;
         put_some(&mut map, alloc, "message", Some(message))?;

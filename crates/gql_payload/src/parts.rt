@@ -4,7 +4,7 @@ ghost use Rattle.std.specs.Prelude.{◌≡◌, IfOk, IfSome, OnOk, option_map};
 ghost use Rattle.std.specs.List.{AllByRecursion};
 ghost use Rattle.serde_json.specs.View.{view, members_view};
 ghost use Rattle.gql_payload.specs.PayloadText.{array, unless_empty, if_some};
-ghost use Rattle.gql_payload.specs.Members.{put_some};
+ghost use Rattle.gql_payload.specs.inner.Members.{put_some};
 
 use gql_tree::NoMemory;
 use serde_json::{Map, Value};

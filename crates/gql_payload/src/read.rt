@@ -6,7 +6,7 @@ ghost use Rattle.serde_json.specs.Find.{as_object};
 ghost use Rattle.serde_json.specs.Read.{read};
 ghost use Rattle.serde_json.specs.View.{view};
 ghost use Rattle.gql_payload.specs.Reading.{payload, wrong_member, IsJson, IsJsonObject, Decodes};
-ghost use Rattle.gql_payload.specs.WrongAt.{WrongAt};
+ghost use Rattle.gql_payload.specs.inner.WrongAt.{WrongAt};
 ghost use Rattle.gql_payload.specs.declared.from_serde.Misfit.TheVariants as misfit;
 ghost use Rattle.gql_payload.specs.declared.refusal.PayloadRefusal.TheVariants.{NotJson, NotAnObject, Wrong, NoMemory};
 

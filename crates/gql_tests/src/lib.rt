@@ -5,3 +5,9 @@
 
 #[cfg(test)]
 mod client;
+#[cfg(test)]
+mod payload;
+#[cfg(test)]
+mod tree;
+#[cfg(test)]
+mod values;

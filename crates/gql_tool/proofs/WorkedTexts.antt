@@ -7,7 +7,7 @@ use Rattle.std.specs.Prelude.{decimal}
 use Rattle.json.specs.Print.{escape_byte}
 use Rattle.gql_multipart.specs.Frame.{frame}
 use Rattle.gql_tree.proofs.Json.{data_Null, data_Text, data_Object}
-use Rattle.gql_model.specs.Sample.{plain, one_deferred, bubbling, null_item, failing}
+use Rattle.gql_model.specs.Sample.{one_field, one_deferred, bubbling, null_item, failing}
 use Rattle.gql_model.specs.Worked.{regions}
 use Rattle.gql_tool.specs.Local.{texts, body}
 
@@ -32,7 +32,7 @@ decimal-37 : decimal 37 ≡ 51 ∷ 55 ∷ []
 unfolding digits
 decimal-37 = refl
 
-pub texts-plain : texts (regions plain) ≡ codes "{\"data\":{\"hero\":{\"id\":\"1\"}}}" ∷ []
+pub texts-plain : texts (regions one_field) ≡ codes "{\"data\":{\"hero\":{\"id\":\"1\"}}}" ∷ []
 unfolding escape_byte
 texts-plain = simp (data_Object, data_Text) refl
 

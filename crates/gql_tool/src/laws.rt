@@ -1,7 +1,7 @@
 //! Laws of the right outcomes, and worked bodies.
 
 ghost use Rattle.std.specs.Prelude.{◌≡◌, ℕ, List, [], ◌∷◌, codes, length};
-ghost use Rattle.gql_model.specs.Sample.{plain, one_deferred, bubbling, null_item, failing};
+ghost use Rattle.gql_model.specs.Sample.{one_field, one_deferred, bubbling, null_item, failing};
 ghost use Rattle.gql_model.specs.Worked.{regions};
 ghost use Rattle.gql_io.specs.Files.{Files};
 ghost use Rattle.gql_tool.specs.Words.{Names};
@@ -22,7 +22,7 @@ pub fn replay_has_one_outcome()
 /// The texts of the payloads of worked operations, as they were written by hand.
 pub fn worked_texts()
     // { hero { id } }
-    ensures plain { texts (regions plain) ≡ codes "{\"data\":{\"hero\":{\"id\":\"1\"}}}" ∷ [] }
+    ensures plain { texts (regions one_field) ≡ codes "{\"data\":{\"hero\":{\"id\":\"1\"}}}" ∷ [] }
 
     // { hero { id ... @defer(label:"D") { name } } }
     ensures deferred { texts (regions one_deferred)

@@ -6,8 +6,8 @@ use Rattle.std.proofs.lemmas.Slice.Eq.{bytes_eq-Decides}
 use Rattle.gql_tree.specs.declared.fields.Named.{Named}
 use Rattle.gql_tree.specs.declared.value.Value.{Value}
 use Rattle.gql_tree.specs.Names.{has_name, apart}
-use Rattle.gql_tree.specs.Place.{change_named}
-use Rattle.gql_tree.specs.United.{others}
+use Rattle.gql_tree.specs.inner.Place.{change_named}
+use Rattle.gql_tree.specs.inner.United.{others}
 use Rattle.gql_tree.proofs.Names.{either, both, from_both}
 
 has_by : (b : Bool) (k : List ℕ) (n : List ℕ) (f : Value → Value) (m : Named Value) (ms : List (Named Value)) → has_name k (change_named n f ms) ≡ has_name k ms → has_name k (cond b (record { name = m.name; value = f m.value } ∷ ms) (m ∷ change_named n f ms)) ≡ bytes_eq m.name k || has_name k ms

@@ -8,7 +8,7 @@ use Rattle.gql_tree.specs.declared.value.Value.TheOpen.{Value-F}
 use Rattle.gql_tree.specs.declared.value.Value.TheVariants.{outs-List}
 use Rattle.gql_tree.specs.declared.value.Value.TheVariants as v
 use Rattle.gql_tree.specs.Flat.{Layer, Mark, mark_of, list, items_of, below, find, flat}
-use Rattle.gql_tree.specs.Place.{put_at, IsList}
+use Rattle.gql_tree.specs.inner.Place.{put_at, IsList}
 use Rattle.gql_tree.specs.Extended.{IsLonger, IsElsewhere, marks}
 use Rattle.gql_tree.proofs.Moved.{Where, where_at, flat-append, flat-put_at}
 

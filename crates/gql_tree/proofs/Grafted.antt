@@ -3,9 +3,9 @@ use Rattle.std.proofs.Common.{◌≡◌, ◌↔◌, ◌⊎◌, inl, inr, List, �
 use Rattle.gql_tree.specs.declared.path.Key.{Key}
 use Rattle.gql_tree.specs.declared.value.Value.{Value}
 use Rattle.gql_tree.specs.Flat.{Mark, find, flat}
-use Rattle.gql_tree.specs.Place.{put_at}
+use Rattle.gql_tree.specs.inner.Place.{put_at}
 use Rattle.gql_tree.specs.Union.{IsUnion, Clashes, moved}
-use Rattle.gql_tree.specs.United.{Unites, Conflict}
+use Rattle.gql_tree.specs.inner.United.{Unites, Conflict}
 use Rattle.gql_tree.proofs.Moved.{Where, where_at, flat-append, flat-put_at, moved-append}
 
 abbrev Holds : Mark → Option Mark → Option Mark → Option Mark → Type 0

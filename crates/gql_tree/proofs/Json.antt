@@ -6,7 +6,7 @@ use Rattle.std.specs.declared.cmp.Ordering.{Ordering}
 use Rattle.std.specs.declared.cmp.Ordering.TheVariants.{Less, Equal, Greater}
 use Rattle.std.specs.Ordering.{nat_cmp, match_ordering}
 use Rattle.std.specs.Cmp.Lexicographic.{slice_cmp}
-use Rattle.serde_json.specs.Data.{Data, null, boolean, number, string, array, object, Members, no_members, member, put}
+use Rattle.serde_json.specs.Data.{Data, null, number, string, array, object, Members, no_members, member, put}
 use Rattle.serde_json.specs.Find.{of_integer}
 use Rattle.serde_json.specs.View.{items_of}
 use Rattle.serde_json.specs.Written.{has_float, items_have_float, members_have_float}
@@ -14,7 +14,7 @@ use Rattle.gql_tree.specs.declared.fields.Named.{Named}
 use Rattle.gql_tree.specs.declared.value.Value.{Value, roll-Value}
 use Rattle.gql_tree.specs.declared.value.Value.TheOpen.{Value-F}
 use Rattle.gql_tree.specs.declared.value.Value.TheFolds.{map-Value, fold-roll-Value, ind-Value}
-use Rattle.gql_tree.specs.declared.value.Value.TheVariants.{rolls-Null, rolls-Bool, rolls-Int, rolls-Text, rolls-List, rolls-Object}
+use Rattle.gql_tree.specs.declared.value.Value.TheVariants.{rolls-Null, rolls-Int, rolls-Text, rolls-List, rolls-Object}
 use Rattle.gql_tree.specs.declared.value.Value.TheVariants as Value
 use Rattle.gql_tree.specs.Json.{put_all, data_step, data_of}
 
@@ -26,9 +26,6 @@ named_map f m = record { name = m.name; value = f m.value }
 
 pub data_Null : data_of Value.Null ≡ null
 data_Null = ap data_of (sym rolls-Null) ∙ fold-roll-Value Data data_step Value-F.Null
-
-pub data_Bool : (b : Bool) → data_of (Value.Bool b) ≡ boolean b
-data_Bool b = ap data_of (sym (rolls-Bool b)) ∙ fold-roll-Value Data data_step (Value-F.Bool b)
 
 pub data_Int : (n : ℤ) → data_of (Value.Int n) ≡ number (of_integer n)
 data_Int n = ap data_of (sym (rolls-Int n)) ∙ fold-roll-Value Data data_step (Value-F.Int n)
@@ -61,7 +58,7 @@ put_all-take f ms i m here within =
 
 -- ---- no float
 
-or_false : (a b : Bool) → a ≡ false → b ≡ false → a || b ≡ false
+pub or_false : (a b : Bool) → a ≡ false → b ≡ false → a || b ≡ false
 or_false a b e f = rw (e, f) refl
 
 first_of : (a b : Bool) → a || b ≡ false → a ≡ false
@@ -72,17 +69,25 @@ second_of : (a b : Bool) → a || b ≡ false → b ≡ false
 second_of true b h = absurd (cc)
 second_of false b h = h
 
-put_by : (o : Ordering) (k l : List ℕ) (d e : Data) (ms : Members) → has_float d ≡ false → has_float e ≡ false → members_have_float ms ≡ false → members_have_float (put k d ms) ≡ false → members_have_float (match_ordering o (member k d (member l e ms)) (member l d ms) (member l e (put k d ms))) ≡ false
-put_by Less k l d e ms hd he hm hp = or_false _ _ hd (or_false _ _ he hm)
-put_by Equal k l d e ms hd he hm hp = or_false _ _ hd hm
-put_by Greater k l d e ms hd he hm hp = or_false _ _ he hp
+-- whether one of the members has something is whether the first has it, or a later one
+abbrev pub GoesBy : (Data → Bool) → (Members → Bool) → Type 0
+GoesBy f g = (k : List ℕ) (d : Data) (ms : Members) → g (member k d ms) ≡ (f d || g ms)
+
+put_by : (f : Data → Bool) (g : Members → Bool) → GoesBy f g → (o : Ordering) (k l : List ℕ) (d e : Data) (ms : Members) → f d ≡ false → f e ≡ false → g ms ≡ false → g (put k d ms) ≡ false → g (match_ordering o (member k d (member l e ms)) (member l d ms) (member l e (put k d ms))) ≡ false
+put_by f g step Less k l d e ms hd he hm hp = step k d (member l e ms) ∙ or_false _ _ hd (step l e ms ∙ or_false _ _ he hm)
+put_by f g step Equal k l d e ms hd he hm hp = step l d ms ∙ or_false _ _ hd hm
+put_by f g step Greater k l d e ms hd he hm hp = step l e (put k d ms) ∙ or_false _ _ he hp
+
+-- what no member has is not there after another is put in that hasn't it
+pub put_without : (f : Data → Bool) (g : Members → Bool) → GoesBy f g → (k : List ℕ) (d : Data) (ms : Members) → f d ≡ false → g ms ≡ false → g (put k d ms) ≡ false
+put_without f g step k d no_members hd hm = step k d no_members ∙ or_false _ _ hd hm
+put_without f g step k d (member l e ms) hd hm =
+    let h = sym (step l e ms) ∙ hm in
+    let hs = second_of (f e) (g ms) h in
+    put_by f g step (slice_cmp nat_cmp k l) k l d e ms hd (first_of (f e) (g ms) h) hs (put_without f g step k d ms hd hs)
 
 put_plain : (k : List ℕ) (d : Data) (ms : Members) → has_float d ≡ false → members_have_float ms ≡ false → members_have_float (put k d ms) ≡ false
-put_plain k d no_members hd hm = or_false _ _ hd refl
-put_plain k d (member l e ms) hd hm =
-    let he = first_of (has_float e) (members_have_float ms) hm in
-    let hs = second_of (has_float e) (members_have_float ms) hm in
-    put_by (slice_cmp nat_cmp k l) k l d e ms hd he hs (put_plain k d ms hd hs)
+put_plain = put_without has_float members_have_float (λ k d ms. refl)
 
 abbrev Plain : Value → Type 0
 Plain x = has_float (data_of x) ≡ false

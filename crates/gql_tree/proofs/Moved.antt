@@ -12,7 +12,7 @@ use Rattle.gql_tree.specs.declared.value.Value.TheOpen.{Value-F}
 use Rattle.gql_tree.specs.Keys.{same_key}
 use Rattle.gql_tree.specs.Names.{named}
 use Rattle.gql_tree.specs.Flat.{Layer, Mark, mark_of, list, below, find, flat}
-use Rattle.gql_tree.specs.Place.{change_item, change_named, change_below, put_at}
+use Rattle.gql_tree.specs.inner.Place.{change_item, change_named, change_below, put_at}
 use Rattle.gql_tree.specs.Union.{Marks, moved}
 use Rattle.gql_tree.proofs.Place.{with_value}
 use Rattle.gql_tree.proofs.Put.{below_changed, first_test, find_put}

@@ -1,6 +1,7 @@
 -- Change at a path, by positions.
-use Rattle.std.proofs.Common.{◌≡◌, ℕ, zero, suc, ◌<◌, List, [], ◌∷◌, length, get_or, refl, ap, Bool, true, false, cond, Some, Option, IsSome, arith}
+use Rattle.std.proofs.Common.{◌≡◌, ℕ, zero, suc, ◌<◌, List, [], ◌∷◌, length, get_or, refl, ◌∙◌, ◌+◌, ap, Bool, true, false, cond, Some, None, Option, IsSome, arith}
 use Rattle.std.specs.Prelude.{slice_set, option_and_then}
+use Rattle.std.specs.List.{position_from}
 use Rattle.std.specs.Str.{bytes_eq}
 use Rattle.std.proofs.lemmas.Option.{slice_get-get_or}
 use Rattle.gql_tree.specs.declared.path.Key.{Key}
@@ -8,7 +9,7 @@ use Rattle.gql_tree.specs.declared.value.Value.{Value}
 use Rattle.gql_tree.specs.declared.fields.Named.{Named}
 use Rattle.gql_tree.specs.Flat.{find}
 use Rattle.gql_tree.specs.Names.{named}
-use Rattle.gql_tree.specs.Place.{change_item, change_named, place_of, find_item, find_named}
+use Rattle.gql_tree.specs.inner.Place.{change_item, change_named, find_item}
 
 pub in_items : (ks : List Key) (i : ℕ) (vs : List Value) → IsSome (find_item ks i vs) → i < length vs
 in_items ks i [] h = absurd (cc)
@@ -23,32 +24,42 @@ change_item_set f i [] d h = absurd (omega arith)
 change_item_set f zero (v ∷ vs) d h = refl
 change_item_set f (suc i) (v ∷ vs) d h = ap (λ xs. v ∷ xs) (change_item_set f i vs d (omega arith))
 
-in_by : (b : Bool) (a c : Option Value) (ks : List Key) (n : ℕ) (m : ℕ) → IsSome (option_and_then (λ w. find w ks) (cond b a c)) → (IsSome (option_and_then (λ w. find w ks) c) → n < m) → cond b 0 (suc n) < suc m
-in_by true a c ks n m h k = omega arith
-in_by false a c ks n m h k = omega (arith, k h)
-
-pub in_members : (ks : List Key) (n : List ℕ) (ms : List (Named Value)) → IsSome (find_named ks n ms) → place_of n ms < length ms
-in_members ks n [] h = absurd (cc)
-in_members ks n (m ∷ ms) h = in_by (bytes_eq m.name n) (Some m.value) (named n ms) ks (place_of n ms) (length ms) h (in_members ks n ms)
-
-at_by : (b : Bool) (m : Named Value) (ms : List (Named Value)) (n : List ℕ) (d : Named Value) → (place_of n ms < length ms → named n ms ≡ Some (get_or ms (place_of n ms) d).value) → cond b 0 (suc (place_of n ms)) < suc (length ms) → cond b (Some m.value) (named n ms) ≡ Some (get_or (m ∷ ms) (cond b 0 (suc (place_of n ms))) d).value
-at_by true m ms n d h lt = refl
-at_by false m ms n d h lt = h (omega arith)
-
-pub named_place : (n : List ℕ) (ms : List (Named Value)) (d : Named Value) → place_of n ms < length ms → named n ms ≡ Some (get_or ms (place_of n ms) d).value
-named_place n [] d h = absurd (omega arith)
-named_place n (m ∷ ms) d h = at_by (bytes_eq m.name n) m ms n d (named_place n ms d) h
-
-pub find_named_at : (ks : List Key) (n : List ℕ) (ms : List (Named Value)) (d : Named Value) → place_of n ms < length ms → find_named ks n ms ≡ find (get_or ms (place_of n ms) d).value ks
-find_named_at ks n ms d h = ap (option_and_then (λ w. find w ks)) (named_place n ms d h)
-
 abbrev pub with_value : (Named Value) → (Value → Value) → (Named Value)
 with_value m f = record { name = m.name; value = f m.value }
 
-set_by : (b : Bool) (f : Value → Value) (m : Named Value) (ms : List (Named Value)) (n : List ℕ) (d : Named Value) → (place_of n ms < length ms → change_named n f ms ≡ slice_set ms (place_of n ms) (with_value (get_or ms (place_of n ms) d) f)) → cond b 0 (suc (place_of n ms)) < suc (length ms) → cond b (with_value m f ∷ ms) (m ∷ change_named n f ms) ≡ slice_set (m ∷ ms) (cond b 0 (suc (place_of n ms))) (with_value (get_or (m ∷ ms) (cond b 0 (suc (place_of n ms))) d) f)
-set_by true f m ms n d h lt = refl
-set_by false f m ms n d h lt = ap (λ xs. m ∷ xs) (h (omega arith))
+-- ---- the first member of a name
 
-pub change_named_set : (f : Value → Value) (n : List ℕ) (ms : List (Named Value)) (d : Named Value) → place_of n ms < length ms → change_named n f ms ≡ slice_set ms (place_of n ms) (with_value (get_or ms (place_of n ms) d) f)
-change_named_set f n [] d h = absurd (omega arith)
-change_named_set f n (m ∷ ms) d h = set_by (bytes_eq m.name n) f m ms n d (change_named_set f n ms d) h
+module _ (n : List ℕ) where
+  abbrev Has : Named Value → Bool
+  Has m = bytes_eq m.name n
+
+  -- it stands at this index, counted from k
+  abbrev Stands : ℕ → List (Named Value) → ℕ → Named Value → (Value → Value) → Type 0
+  Stands k ms at d f = (j : ℕ) × (at ≡ k + j) × (j < length ms) × (named n ms ≡ Some (get_or ms j d).value) × (change_named n f ms ≡ slice_set ms j (with_value (get_or ms j d) f))
+
+  stands_by : (b : Bool) (m : Named Value) (ms : List (Named Value)) (k at : ℕ) (d : Named Value) (f : Value → Value) → (position_from Has (k + 1) ms ≡ Some at → Stands (k + 1) ms at d f) → cond b (Some k) (position_from Has (k + 1) ms) ≡ Some at → (j : ℕ) × (at ≡ k + j) × (j < suc (length ms)) × (cond b (Some m.value) (named n ms) ≡ Some (get_or (m ∷ ms) j d).value) × (cond b (with_value m f ∷ ms) (m ∷ change_named n f ms) ≡ slice_set (m ∷ ms) j (with_value (get_or (m ∷ ms) j d) f))
+  stands_by true m ms k at d f h is = let same : k ≡ at = cc in (0, omega arith, omega arith, refl, refl)
+  stands_by false m ms k at d f h is = let p = h is in (suc p.0, omega (arith, p.1), omega (arith, p.2), p.3, ap (λ xs. m ∷ xs) p.4)
+
+  stands_from : (ms : List (Named Value)) (k at : ℕ) (d : Named Value) (f : Value → Value) → position_from Has k ms ≡ Some at → Stands k ms at d f
+  stands_from [] k at d f is = absurd (cc)
+  stands_from (m ∷ ms) k at d f is = stands_by (Has m) m ms k at d f (stands_from ms (k + 1) at d f) is
+
+  pub found_at : (ms : List (Named Value)) (at : ℕ) (d : Named Value) (f : Value → Value) → position_from Has 0 ms ≡ Some at → (at < length ms) × (named n ms ≡ Some (get_or ms at d).value) × (change_named n f ms ≡ slice_set ms at (with_value (get_or ms at d) f))
+  found_at ms at d f is =
+      let p = stands_from ms 0 at d f is in
+      let same : p.0 ≡ at = omega (arith, p.1) in
+      (omega (arith, p.1, p.2), p.3 ∙ ap (λ j. Some (get_or ms j d).value) same, p.4 ∙ ap (λ j. slice_set ms j (with_value (get_or ms j d) f)) same)
+
+  missing_by : (b : Bool) (m : Named Value) (ms : List (Named Value)) (k : ℕ) → (position_from Has (k + 1) ms ≡ None → named n ms ≡ None) → cond b (Some k) (position_from Has (k + 1) ms) ≡ None → cond b (Some m.value) (named n ms) ≡ None
+  missing_by true m ms k h is = absurd (cc)
+  missing_by false m ms k h is = h is
+
+  pub none_found : (ms : List (Named Value)) (k : ℕ) → position_from Has k ms ≡ None → named n ms ≡ None
+  none_found [] k is = refl
+  none_found (m ∷ ms) k is = missing_by (Has m) m ms k (none_found ms (k + 1)) is
+
+-- nothing stands below what isn't there
+pub none_below : (ks : List Key) (o : Option Value) → o ≡ None → IsSome (option_and_then (λ w. find w ks) o) → ⊥
+none_below ks None e h = absurd (cc)
+none_below ks (Some v) e h = absurd (cc)

@@ -9,7 +9,7 @@ use Rattle.gql_tree.specs.declared.value.Value.TheOpen.{Value-F}
 use Rattle.gql_tree.specs.declared.fields.Named.{Named}
 use Rattle.gql_tree.specs.Flat.{Layer, below, find}
 use Rattle.gql_tree.specs.Names.{named}
-use Rattle.gql_tree.specs.Place.{change_item, change_named, change_below, put_at}
+use Rattle.gql_tree.specs.inner.Place.{change_item, change_named, change_below, put_at}
 use Rattle.gql_tree.proofs.Place.{with_value}
 
 -- ---- the place changed is the place read

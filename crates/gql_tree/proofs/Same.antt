@@ -13,7 +13,8 @@ use Rattle.gql_tree.specs.declared.fields.Named.{Named}
 use Rattle.gql_tree.specs.Flat.{Layer, list, mark_of, items_of, members_of, below, find}
 use Rattle.gql_tree.specs.Names.{named, has_name, apart}
 use Rattle.gql_tree.proofs.Names.{either, both}
-use Rattle.gql_tree.specs.Same.{SameFlat, SameMaybe, SameItems, SameLayer, FoundIn, NamedIn}
+use Rattle.gql_tree.specs.Same.{SameFlat, SameMaybe, SameItems}
+use Rattle.gql_tree.specs.inner.SameLayer.{SameLayer, FoundIn, NamedIn}
 
 -- no later member has the name of an earlier one
 abbrev pub Distinct : List (Named Value) → Type 0

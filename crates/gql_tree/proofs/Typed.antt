@@ -1,32 +1,27 @@
 -- What the type of a value keeps, kind by kind, and that no number of its JSON is bad.
-use Rattle.std.proofs.Common.{◌≡◌, ◌<◌, List, [], ◌∷◌, map, refl, sym, ◌∙◌, ap, subst, Bool, true, false, IsTrue, Ordering, Less, Equal, Greater, suc, ◌+◌, length, get_or, drop, arith}
+use Rattle.std.proofs.Common.{◌≡◌, ◌<◌, List, [], ◌∷◌, map, refl, sym, ◌∙◌, ap, subst, Bool, true, false, IsTrue, suc, ◌+◌, length, get_or, drop, arith}
 use Rattle.std.proofs.Math.Seq.{drop-cons}
-use Rattle.std.specs.Prelude.{ℕ, ℤ, pos, negsuc, ◌&&◌, ◌||◌, not}
-use Rattle.std.specs.Ordering.{nat_cmp, match_ordering}
-use Rattle.std.specs.Cmp.Lexicographic.{slice_cmp}
-use Rattle.serde_json.specs.Data.{Data, number, Members, no_members, member, put}
+use Rattle.std.specs.Prelude.{ℕ, ℤ, pos, negsuc, ◌&&◌, not}
+use Rattle.serde_json.specs.Data.{Data, number, Members, no_members, put}
 use Rattle.serde_json.specs.Find.{of_integer}
 use Rattle.serde_json.specs.View.{items_of}
 use Rattle.gql_tree.specs.declared.fields.Named.{Named}
 use Rattle.gql_tree.specs.declared.value.Value.{Value, roll-Value}
 use Rattle.gql_tree.specs.declared.value.Value.TheOpen.{Value-F}
 use Rattle.gql_tree.specs.declared.value.Value.TheFolds.{map-Value, fold-roll-Value, ind-Value}
-use Rattle.gql_tree.specs.declared.value.Value.TheVariants.{rolls-Null, rolls-Bool, rolls-Int, rolls-Text, rolls-List, rolls-Object}
+use Rattle.gql_tree.specs.declared.value.Value.TheVariants.{rolls-Null, rolls-Int, rolls-Text, rolls-List, rolls-Object}
 use Rattle.gql_tree.specs.declared.value.Value.TheVariants as Value
 use Rattle.gql_tree.specs.Names.{apart}
 use Rattle.gql_tree.specs.Json.{put_all, data_step, data_of}
 use Rattle.gql_tree.specs.FromJson.{has_bad_number, items_have_bad_number, members_have_bad_number}
 use Rattle.gql_tree.specs.Typed.{fits, all_items, all_members, typed_step, is_typed}
-use Rattle.gql_tree.proofs.Json.{named_map}
+use Rattle.gql_tree.proofs.Json.{named_map, or_false, put_without}
 use Rattle.gql_tree.proofs.Marks.{apart-map, left_of, right_of}
 
 -- ---- kind by kind
 
 pub typed_Null : is_typed Value.Null ≡ true
 typed_Null = ap is_typed (sym rolls-Null) ∙ fold-roll-Value Bool typed_step Value-F.Null
-
-pub typed_Bool : (b : Bool) → is_typed (Value.Bool b) ≡ true
-typed_Bool b = ap is_typed (sym (rolls-Bool b)) ∙ fold-roll-Value Bool typed_step (Value-F.Bool b)
 
 pub typed_Int : (z : ℤ) → is_typed (Value.Int z) ≡ fits z
 typed_Int z = ap is_typed (sym (rolls-Int z)) ∙ fold-roll-Value Bool typed_step (Value-F.Int z)
@@ -60,28 +55,8 @@ all_members-drop f ms i m here within h later =
 
 -- ---- no bad number
 
-or_false : (a b : Bool) → a ≡ false → b ≡ false → a || b ≡ false
-or_false a b e f = rw (e, f) refl
-
-first_of : (a b : Bool) → a || b ≡ false → a ≡ false
-first_of true b h = h
-first_of false b h = refl
-
-second_of : (a b : Bool) → a || b ≡ false → b ≡ false
-second_of true b h = absurd (cc)
-second_of false b h = h
-
-put_by : (o : Ordering) (k l : List ℕ) (d e : Data) (ms : Members) → has_bad_number d ≡ false → has_bad_number e ≡ false → members_have_bad_number ms ≡ false → members_have_bad_number (put k d ms) ≡ false → members_have_bad_number (match_ordering o (member k d (member l e ms)) (member l d ms) (member l e (put k d ms))) ≡ false
-put_by Less k l d e ms hd he hm hp = or_false _ _ hd (or_false _ _ he hm)
-put_by Equal k l d e ms hd he hm hp = or_false _ _ hd hm
-put_by Greater k l d e ms hd he hm hp = or_false _ _ he hp
-
 put_whole : (k : List ℕ) (d : Data) (ms : Members) → has_bad_number d ≡ false → members_have_bad_number ms ≡ false → members_have_bad_number (put k d ms) ≡ false
-put_whole k d no_members hd hm = or_false _ _ hd refl
-put_whole k d (member l e ms) hd hm =
-    let he = first_of (has_bad_number e) (members_have_bad_number ms) hm in
-    let hs = second_of (has_bad_number e) (members_have_bad_number ms) hm in
-    put_by (slice_cmp nat_cmp k l) k l d e ms hd he hs (put_whole k d ms hd hs)
+put_whole = put_without has_bad_number members_have_bad_number (λ k d ms. refl)
 
 abbrev Whole : Value → Type 0
 Whole x = IsTrue (is_typed x) → has_bad_number (data_of x) ≡ false

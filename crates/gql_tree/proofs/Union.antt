@@ -12,9 +12,9 @@ use Rattle.gql_tree.specs.declared.value.Value.TheOpen.{Value-F}
 use Rattle.gql_tree.specs.declared.value.Value.TheVariants.{outs-List, outs-Object}
 use Rattle.gql_tree.specs.declared.value.Value.TheVariants as v
 use Rattle.gql_tree.specs.Names.{named, has_name, apart}
-use Rattle.gql_tree.specs.Flat.{Layer, Mark, object, list, mark_of, items_of, members_of, below, find}
+use Rattle.gql_tree.specs.Flat.{Layer, Mark, list, mark_of, items_of, members_of, below, find}
 use Rattle.gql_tree.specs.Union.{Marks, IsUnion, Clashes}
-use Rattle.gql_tree.specs.United.{Unites, Conflict, UnitesMaybe, UnitesItems, Joins, AllJoin, others, ItemsClash, ConflictMaybe, MembersClash}
+use Rattle.gql_tree.specs.inner.United.{Unites, Conflict, UnitesMaybe, UnitesItems, Joins, AllJoin, others, ItemsClash, ConflictMaybe, MembersClash}
 use Rattle.gql_tree.proofs.Same.{Distinct, distinct_of, named_first, named_skip}
 use Rattle.gql_tree.proofs.Has.{named-has}
 
@@ -46,14 +46,6 @@ union_from_layer r a b e f h (k ∷ path) m = maybe_union path m _ _ _ (h k)
 
 -- ---- a list
 
-list_length : (l : Layer) (n : ℕ) → list n ≡ mark_of l → n ≡ length (items_of l)
-list_length Value-F.Null n h = absurd (cc)
-list_length (Value-F.Bool x) n h = absurd (cc)
-list_length (Value-F.Int x) n h = absurd (cc)
-list_length (Value-F.Text x) n h = absurd (cc)
-list_length (Value-F.List x) n h = cc
-list_length (Value-F.Object x) n h = absurd (cc)
-
 list_members : (l : Layer) (n : ℕ) → list n ≡ mark_of l → members_of l ≡ []
 list_members Value-F.Null n h = refl
 list_members (Value-F.Bool x) n h = refl
@@ -61,14 +53,6 @@ list_members (Value-F.Int x) n h = refl
 list_members (Value-F.Text x) n h = refl
 list_members (Value-F.List x) n h = refl
 list_members (Value-F.Object x) n h = absurd (cc)
-
-object_items : (l : Layer) → object ≡ mark_of l → items_of l ≡ []
-object_items Value-F.Null h = refl
-object_items (Value-F.Bool x) h = refl
-object_items (Value-F.Int x) h = refl
-object_items (Value-F.Text x) h = refl
-object_items (Value-F.List x) h = absurd (cc)
-object_items (Value-F.Object x) h = refl
 
 items_union : (rs xs ys : List Value) (i : ℕ) → UnitesItems rs xs ys → UnitesMaybe (slice_get rs i) (slice_get xs i) (slice_get ys i)
 items_union [] [] [] i h = tt
@@ -114,9 +98,6 @@ list_union r a b rs xs e f g h =
     (λ k. subst (λ (l : Layer). UnitesMaybe (below l k) (below (out-Value a) k) (below (out-Value b) k)) (sym er)
     (subst (λ (l : Layer). UnitesMaybe (below (Value-F.List rs) k) (below l k) (below (out-Value b) k)) (sym ea)
     (list_below (out-Value b) rs xs _ (list_members (out-Value b) (length xs) m) refl h k)))
-
-pub list_same_length : (a b : Value) (xs : List Value) → a ≡ v.List xs → mark_of (out-Value a) ≡ mark_of (out-Value b) → length xs ≡ length (items_of (out-Value b))
-list_same_length a b xs f g = list_length (out-Value b) (length xs) (ap mark_of (sym (ap out-Value f ∙ outs-List xs)) ∙ g)
 
 -- ---- an object
 

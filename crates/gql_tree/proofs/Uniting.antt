@@ -16,10 +16,10 @@ use Rattle.gql_tree.specs.declared.value.Value.TheVariants.{rolls-List, rolls-Ob
 use Rattle.gql_tree.specs.declared.value.Value.TheVariants as v
 use Rattle.gql_tree.specs.Names.{named, has_name, apart}
 use Rattle.gql_tree.specs.Flat.{Layer, Mark, null, truth, integer, text, object, list, mark_of, items_of, below, find, flat}
-use Rattle.gql_tree.specs.Place.{change_item, change_named, change_below, put_at}
+use Rattle.gql_tree.specs.inner.Place.{change_item, change_named, change_below, put_at}
 use Rattle.gql_tree.specs.Typed.{all_items, all_members, typed_step, is_typed, IsTypedValue}
 use Rattle.gql_tree.specs.Union.{IsUnion, Clashes, moved}
-use Rattle.gql_tree.specs.United.{Unites, Conflict, UnitesMaybe, UnitesItems, AllJoin, others}
+use Rattle.gql_tree.specs.inner.United.{Unites, Conflict, UnitesMaybe, UnitesItems, AllJoin, others}
 use Rattle.gql_tree.proofs.Apart.{apart_changed, joined_apart}
 use Rattle.gql_tree.proofs.Below.{from_below}
 use Rattle.gql_tree.proofs.Grafted.{put_union, clash_moved}

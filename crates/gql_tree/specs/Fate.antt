@@ -42,10 +42,12 @@ fragments_below none = []
 fragments_below (more (Fields g) (grown r inner) bs) = r.fragments ++ (fragments_below inner ++ fragments_below bs)
 fragments_below (more (Item s i) f bs) = fragments_below bs
 
+-- a scope's fragments, and its groups with their regions
 pub record Scope : Type 0 where
   pub fragments : List Frag
   pub groups : List GroupRun
 
+-- the scope of a root region with what is below it
 abbrev pub scope_of : Forest → Scope
 scope_of (grown r bs) = record { fragments = r.fragments ++ fragments_below bs; groups = groups_below bs }
 
@@ -57,6 +59,7 @@ items_run (more (Item s i) f bs) = record { stream = s; index = i; region = regi
 
 -- ---- fragments
 
+-- the fragment is one of the group's owners
 abbrev pub has_owner : FragId → GroupRun → Bool
 has_owner id x = list_any (λ o. same_fragment o id) x.group.owners
 
@@ -79,6 +82,7 @@ module _ (s : Scope) where
   abbrev pub is_empty : FragId → Bool
   is_empty id = elim (groups_of id) [ [] ↦ true | x ∷ xs ↦ false ]
 
+  -- each of its groups reached its beginning with a value
   abbrev pub all_good : FragId → Bool
   all_good id = list_all (λ x. is_good x.region) (groups_of id)
 
@@ -100,6 +104,7 @@ module _ (s : Scope) where
 
 -- ---- streams
 
+-- the two paths are the same, key by key
 abbrev pub same_path : Path → Path → Bool
 same_path p q = same_lists same_key p.keys q.keys
 

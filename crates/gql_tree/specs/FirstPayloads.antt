@@ -19,10 +19,11 @@ use Rattle.gql_tree.specs.Keys.{same_fragment}
 use Rattle.gql_tree.specs.Forest.{Forest, Branches, none, more, region, branches}
 
 -- a failed initial region is a response whose `data` is null
-abbrev pub value_of : Outcome → Value
-value_of (Good x) = x
-value_of Failed = v.Null
+abbrev pub outcome_value : Outcome → Value
+outcome_value (Good x) = x
+outcome_value Failed = v.Null
 
+-- the label of the fragment with this id
 abbrev pub label_of : List Frag → FragId → Option (List ℕ)
 label_of fs id = option_and_then (λ f. f.label) (find (λ f. same_fragment f.id id) fs)
 
@@ -41,8 +42,9 @@ abbrev pub first_has_next : List Group → Option Bool
 first_has_next [] = None
 first_has_next (g ∷ gs) = Some true
 
+-- the data and the errors of the initial region, and a pending for each of its groups
 abbrev pub first_payload : RegionResult → Payload
-first_payload r = record { initial = Some (value_of r.outcome); errors = r.faults; pending = pendings r.fragments 0 r.groups; incremental = []; completed = []; has_next = first_has_next r.groups }
+first_payload r = record { initial = Some (outcome_value r.outcome); errors = r.faults; pending = pendings r.fragments 0 r.groups; incremental = []; completed = []; has_next = first_has_next r.groups }
 
 -- the regions of the groups, in group order
 abbrev pub group_regions : Branches → List RegionResult
@@ -68,5 +70,6 @@ abbrev pub later_payloads : ℕ → List RegionResult → List Payload
 later_payloads n [] = []
 later_payloads n (r ∷ rs) = record { initial = None; errors = []; pending = []; incremental = entries (decimal n) r; completed = record { id = decimal n; errors = failure r } ∷ []; has_next = Some (later_has_next rs) } ∷ later_payloads (n + 1) rs
 
+-- the first payload, and then one for each group's region
 abbrev pub first_payloads : Forest → List Payload
 first_payloads f = first_payload (region f) ∷ later_payloads 0 (group_regions (branches f))

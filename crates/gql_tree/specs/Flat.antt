@@ -21,6 +21,7 @@ pub data Mark : Type 0 where
   object : Mark
   list : ℕ → Mark
 
+-- what a client sees of one level
 abbrev pub mark_of : Layer → Mark
 mark_of Value-F.Null = null
 mark_of (Value-F.Bool b) = truth b

@@ -16,7 +16,7 @@ use Rattle.gql_tree.specs.Typed.{IsTypedValue}
 use Rattle.gql_tree.specs.Order.{group_cmp, fault_cmp, failure_cmp}
 use Rattle.gql_tree.specs.Ordered.{ordered}
 use Rattle.gql_tree.specs.Forest.{Forest, Branches, grown, none, more}
-use Rattle.gql_tree.specs.FirstPayloads.{value_of}
+use Rattle.gql_tree.specs.FirstPayloads.{outcome_value}
 use Rattle.gql_tree.specs.Fate.{is_good, ItemRun, Scope, scope_of, groups_of, is_ok, is_delivered, is_announced, items_run, items_of_stream, is_item_delivered}
 
 -- ---- what is delivered
@@ -27,8 +27,9 @@ pub record Part : Type 0 where
   pub value : Value
   pub errors : List Fault
 
+-- a region's part at a path
 abbrev pub part : List Key → RegionResult → Part
-part at r = record { at = at; value = value_of r.outcome; errors = r.faults }
+part at r = record { at = at; value = outcome_value r.outcome; errors = r.faults }
 
 -- an announced list with the number of its items that are delivered
 pub record Grown : Type 0 where
@@ -39,6 +40,7 @@ pub record Grown : Type 0 where
 abbrev pub first_failure : List ItemRun → Option (List Fault)
 first_failure items = option_map (λ x. x.region.faults) (find (λ x. not (is_good x.region)) items)
 
+-- the list of an announced stream
 abbrev pub grown_list : List ItemRun → Stream → Grown
 grown_list items s = record { at = s.path.keys; length = s.first + length (filter (λ x. is_item_delivered items x.stream x.index) (items_of_stream items s)) }
 
@@ -60,9 +62,11 @@ pub record Delivery : Type 0 where
   pub lists : List Grown
   pub failures : List Failure
 
+-- nothing is delivered
 abbrev nothing : Delivery
 nothing = record { parts = []; lists = []; failures = [] }
 
+-- two deliveries, one behind the other
 abbrev both : Delivery → Delivery → Delivery
 both a b = record { parts = a.parts ++ b.parts; lists = a.lists ++ b.lists; failures = a.failures ++ b.failures }
 
@@ -76,19 +80,20 @@ whole_scope at r items s inside = both (one at r items) (both inside (record { p
 
 -- what is delivered of the tasks of a region of this scope, and below them; `here` tells whether the region is delivered,
 -- and `items` are the items of its streams
-abbrev below : Scope → Bool → List ItemRun → Branches → Delivery
-below s here items none = nothing
-below s here items (more (Fields g) (grown r inner) bs) =
+abbrev delivered_below : Scope → Bool → List ItemRun → Branches → Delivery
+delivered_below s here items none = nothing
+delivered_below s here items (more (Fields g) (grown r inner) bs) =
     both (if is_delivered s g then one g.path.keys r (items_run inner) else nothing)
-    (both (below s (is_delivered s g) (items_run inner) inner) (below s here items bs))
-below s here items (more (Item st i) (grown r inner) bs) =
+    (both (delivered_below s (is_delivered s g) (items_run inner) inner) (delivered_below s here items bs))
+delivered_below s here items (more (Item st i) (grown r inner) bs) =
     both (if here && is_item_delivered items st i
-    then whole_scope (st.path.keys ++ Index i ∷ []) r (items_run inner) (scope_of (grown r inner)) (below (scope_of (grown r inner)) true (items_run inner) inner)
+    then whole_scope (st.path.keys ++ Index i ∷ []) r (items_run inner) (scope_of (grown r inner)) (delivered_below (scope_of (grown r inner)) true (items_run inner) inner)
     else nothing)
-    (below s here items bs)
+    (delivered_below s here items bs)
 
+-- all of a forest that is delivered, from its root on
 abbrev pub delivery : Forest → Delivery
-delivery (grown r bs) = whole_scope [] r (items_run bs) (scope_of (grown r bs)) (below (scope_of (grown r bs)) true (items_run bs) bs)
+delivery (grown r bs) = whole_scope [] r (items_run bs) (scope_of (grown r bs)) (delivered_below (scope_of (grown r bs)) true (items_run bs) bs)
 
 -- ---- what is merged
 

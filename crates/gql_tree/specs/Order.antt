@@ -28,12 +28,15 @@ path_cmp = slice_cmp key_cmp
 abbrev pub group_cmp : Group → Group → Ordering
 group_cmp g h = ordering_then (path_cmp g.path.keys h.path.keys) (slice_cmp nat_cmp (map (λ f. f.place) g.owners) (map (λ f. f.place) h.owners))
 
+-- stream order: by path
 abbrev pub stream_cmp : Stream → Stream → Ordering
 stream_cmp s t = path_cmp s.path.keys t.path.keys
 
+-- paths by their keys
 abbrev pub paths : Path → Path → Ordering
 paths p q = path_cmp p.keys q.keys
 
+-- texts by their bytes
 abbrev pub texts : List ℕ → List ℕ → Ordering
 texts = slice_cmp nat_cmp
 

@@ -14,10 +14,12 @@ use Rattle.gql_tree.specs.Same.{SameFlat, SameMaybe, SameItems}
 
 -- ---- payloads that make sense
 
+-- the value is an object
 abbrev pub is_object : Layer → Bool
 is_object (Value-F.Object members) = true
 is_object _ = false
 
+-- it is an object, or null
 abbrev pub is_object_or_null : Layer → Bool
 is_object_or_null (Value-F.Object members) = true
 is_object_or_null Value-F.Null = true
@@ -32,6 +34,7 @@ abbrev pub IsOfFields : Content → Type 0
 IsOfFields (Fields v) = IsTrue (is_object (out-Value v))
 IsOfFields (Items vs) = Unit
 
+-- fields are an object, and its errors make sense
 abbrev pub IsSoundEntry : Entry → Type 0
 IsSoundEntry e = record {
   content : IsOfFields e.content;
@@ -49,11 +52,13 @@ IsSound p = record {
 
 -- ---- the same payloads
 
+-- the same fields, or the same items, up to the order of members
 abbrev pub SameContent : Content → Content → Type 0
 SameContent (Fields v) (Fields w) = SameFlat v w
 SameContent (Items vs) (Items ws) = SameItems vs ws
 SameContent _ _ = ⊥
 
+-- equal but for the order of members in the content
 abbrev pub SameEntry : Entry → Entry → Type 0
 SameEntry e f = record {
   id : e.id ≡ f.id;
@@ -62,6 +67,7 @@ SameEntry e f = record {
   errors : e.errors ≡ f.errors;
 }
 
+-- entry by entry the same
 abbrev pub SameEntries : List Entry → List Entry → Type 0
 SameEntries [] [] = Unit
 SameEntries (e ∷ es) (f ∷ fs) = SameEntry e f × SameEntries es fs

@@ -24,10 +24,12 @@ abbrev pub fits : ℤ → Bool
 fits (pos n) = nat_lt n (2 ^ 63)
 fits (negsuc n) = nat_lt n (2 ^ 63)
 
+-- each item meets the test
 abbrev pub all_items : {X : Type 0} → (X → Bool) → List X → Bool
 all_items f [] = true
 all_items f (x ∷ xs) = f x && all_items f xs
 
+-- the value of each member meets the test
 abbrev pub all_members : {X : Type 0} → (X → Bool) → List (Named X) → Bool
 all_members f [] = true
 all_members f (m ∷ ms) = f m.value && all_members f ms
@@ -43,6 +45,7 @@ typed_step _ = true
 abbrev pub is_typed : Value → Bool
 is_typed = fold-Value Bool typed_step
 
+-- the value can exist
 abbrev pub IsTypedValue : Value → Type 0
 IsTypedValue v = IsTrue (is_typed v)
 
@@ -51,6 +54,7 @@ abbrev pub IsTypedKey : Key → Type 0
 IsTypedKey (Name n) = Unit
 IsTypedKey (Index i) = i < 2 ^ 32
 
+-- each index has 32 bits
 abbrev pub IsTypedPath : Path → Type 0
 IsTypedPath p = AllByRecursion IsTypedKey p.keys
 
@@ -62,20 +66,25 @@ IsTypedFault f = record {
   path : IfSome f.path IsTypedPath;
 }
 
+-- its path can exist
 abbrev pub IsTypedPending : Pending → Type 0
 IsTypedPending p = IsTypedPath p.path
 
+-- where it has fields, they can exist
 abbrev pub HasTypedFields : Content → Type 0
 HasTypedFields (Fields v) = IsTypedValue v
 HasTypedFields (Items vs) = Unit
 
+-- where it has items, each can exist
 abbrev pub HasTypedItems : Content → Type 0
 HasTypedItems (Fields v) = Unit
 HasTypedItems (Items vs) = AllByRecursion IsTypedValue vs
 
+-- its fields or its items can exist
 abbrev pub IsTypedContent : Content → Type 0
 IsTypedContent c = HasTypedFields c × HasTypedItems c
 
+-- its path, its content and its errors can exist
 abbrev pub IsTypedEntry : Entry → Type 0
 IsTypedEntry e = record {
   sub_path : IsTypedPath e.sub_path;
@@ -83,15 +92,18 @@ IsTypedEntry e = record {
   errors : AllByRecursion IsTypedFault e.errors;
 }
 
+-- its errors can exist
 abbrev pub IsTypedCompleted : Completed → Type 0
 IsTypedCompleted c = AllByRecursion IsTypedFault c.errors
 
+-- its path and its errors can exist
 abbrev pub IsTypedFailure : Failure → Type 0
 IsTypedFailure f = record {
   path : IsTypedPath f.path;
   errors : AllByRecursion IsTypedFault f.errors;
 }
 
+-- all that it holds can exist
 abbrev pub IsTypedPayload : Payload → Type 0
 IsTypedPayload p = record {
   initial : IfSome p.initial IsTypedValue;

@@ -16,39 +16,47 @@ use Rattle.gql_tree.specs.declared.delivery.TaskWork.TheVariants.{Fields, Item}
 use Rattle.gql_tree.specs.Forest.{Forest, grown, none, more}
 
 -- an object of one member
-abbrev pub object : List ℕ → Value → Value
-object name x = v.Object (record { name = name; value = x } ∷ [])
+abbrev pub one_member : List ℕ → Value → Value
+one_member name x = v.Object (record { name = name; value = x } ∷ [])
 
 -- ---- deferred fragments at `hero`
 
+-- the path of all that is deferred here
 abbrev pub hero : List Key
 hero = Name (codes "hero") ∷ []
 
+-- a deferred fragment at this place of the operation
 abbrev pub fragment : ℕ → FragId
 fragment place = record { place = place; path = record { keys = hero } }
 
+-- one with its label, and the one that it stands in
 abbrev pub labelled : ℕ → List ℕ → Option FragId → Frag
 labelled place label parent = record { id = fragment place; label = Some label; parent = parent }
 
+-- a group with these owners
 abbrev pub group : List FragId → Group
 group owners = record { owners = owners; path = record { keys = hero }; row = record { kind = 1; number = 0 }; fields = [] }
 
+-- the error of the field `boom`
 abbrev pub bang : Fault
 bang = record { message = codes "bang"; line = 1; column = 36; path = Some (record { keys = Name (codes "hero") ∷ Name (codes "boom") ∷ [] }) }
 
+-- a region that makes no tasks
 abbrev pub ended : Outcome → List Fault → RegionResult
 ended outcome faults = record { outcome = outcome; faults = faults; fragments = []; groups = []; streams = [] }
 
+-- the region that gives the name
 abbrev pub luke : RegionResult
-luke = ended (Good (object (codes "name") (v.Text (codes "Luke")))) []
+luke = ended (Good (one_member (codes "name") (v.Text (codes "Luke")))) []
 
+-- the region that fails
 abbrev pub boom : RegionResult
 boom = ended Failed (bang ∷ [])
 
 -- an initial region with these fragments and groups
 abbrev pub waiting : List Frag → List Group → RegionResult
 waiting fragments groups = record {
-  outcome = Good (object (codes "hero") (object (codes "id") (v.Text (codes "1"))));
+  outcome = Good (one_member (codes "hero") (one_member (codes "id") (v.Text (codes "1"))));
   faults = [];
   fragments = fragments;
   groups = groups;
@@ -77,9 +85,11 @@ nested_name =
 
 -- ---- a stream at `crew`
 
+-- the path of the list
 abbrev pub crew : List Key
 crew = Name (codes "crew") ∷ []
 
+-- its items from 1 up to 4
 abbrev pub crew_stream : Stream
 crew_stream = record {
   path = record { keys = crew };
@@ -91,6 +101,7 @@ crew_stream = record {
   length = 4;
 }
 
+-- the region of one item
 abbrev pub item : List ℕ → RegionResult
 item name = ended (Good (v.Text name)) []
 

@@ -122,7 +122,7 @@ impl<T: Drop> Fields<T> {
         ensures ok { OnOk result (self.new ≡ put_named name value self.old) }
         ensures err { OnErr result (self.new ≡ self.old) }
     {
-        match place_of(self.items.as_slice(), name.as_str()) {
+        match position_of(self.items.as_slice(), name.as_str()) {
             Some(at) => {
                 self.items[at].value = value;
                 Ok(())
@@ -132,8 +132,8 @@ impl<T: Drop> Fields<T> {
     }
 }
 
-/// Where the member of a name stands.
-fn place_of<T>(members: &[Named<T>], name: &str) -> Option<usize>
+/// The index of the member of a name.
+pub(crate) fn position_of<T>(members: &[Named<T>], name: &str) -> Option<usize>
     ensures { result ≡ position (λ member. bytes_eq member.name name.now) members.now }
 {
     members

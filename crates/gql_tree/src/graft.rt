@@ -7,24 +7,26 @@ ghost use Rattle.gql_tree.specs.declared.value.Value.TheVariants as Value;
 ghost use Rattle.gql_tree.specs.Flat.{flat, items_of, object};
 ghost use Rattle.gql_tree.specs.Union.{IsUnion, Clashes, moved};
 ghost use Rattle.gql_tree.specs.Extended.{IsLonger, IsOther};
-ghost use Rattle.gql_tree.specs.Place.{IsObject, IsList};
+ghost use Rattle.gql_tree.specs.inner.Place.{IsObject, IsList};
 
 use crate::unite::Unlike;
 use crate::{Key, Listed, NoMemory, Value};
 use std::mem;
-
-#[cfg(test)]
-mod tests;
+use thiserror::Error;
 
 /// Why something was not joined to what stands at a path.
-#[derive(Debug, Drop)]
+#[derive(Debug, Drop, Error)]
 pub enum GraftRefusal {
     /// Nothing of the wanted kind stands at the path.
+    #[error("nothing of the wanted kind stands at the path")]
     NoSuchPlace,
     /// One path has two different marks.
+    #[error("another value stands there already")]
     Clash,
     /// Another value than a list stands at the path.
+    #[error("no list stands at the path")]
     NotAList,
+    #[error("no memory left")]
     NoMemory,
 }
 

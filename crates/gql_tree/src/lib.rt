@@ -14,8 +14,6 @@ mod memory;
 mod path;
 mod replace;
 mod shared;
-#[cfg(test)]
-mod tests;
 mod text;
 mod unite;
 mod value;

@@ -2,8 +2,9 @@
 
 ghost use Rattle.std.specs.Prelude.{◌≡◌, Some, IsSome};
 ghost use Rattle.gql_tree.specs.Flat.{find};
-ghost use Rattle.gql_tree.specs.Place.{put_at, place_of, change_item, change_named, find_item, find_named};
+ghost use Rattle.gql_tree.specs.inner.Place.{put_at, change_item, change_named, find_item, find_named};
 
+use crate::fields::position_of;
 use crate::{Fields, Key, Listed, Named, Text, Value};
 use std::mem;
 
@@ -62,19 +63,11 @@ fn replace_member(members: &mut Vec<Named<Value>>, name: &Text, rest: &[Key], va
     ensures was { find_named rest.now name.now members.old.items ≡ Some result }
     ensures now { members.new.items ≡ change_named name.now (put_at rest.now value) members.old.items }
 {
-    let at = place_of(members.as_slice(), name.as_str());
-    let member = &mut members[at];
-    member.value.replace_at(rest, value)
-}
-
-/// Where the first member of this name stands, and the number of members where there is none.
-fn place_of(members: &[Named<Value>], name: &str) -> usize
-    ensures { result ≡ place_of name.now members.now }
-{
-    for i in 0..members.len() {
-        if members[i].name.as_str() == name {
-            return i;
+    match position_of(members.as_slice(), name.as_str()) {
+        Some(at) => {
+            let member = &mut members[at];
+            member.value.replace_at(rest, value)
         }
+        None => value,
     }
-    members.len()
 }

@@ -8,7 +8,7 @@ ghost use Rattle.gql_tree.specs.declared.value.Value.{out-Value};
 ghost use Rattle.gql_tree.specs.declared.value.Value.TheVariants as Value;
 ghost use Rattle.gql_tree.specs.Names.{apart};
 ghost use Rattle.gql_tree.specs.Flat.{mark_of, items_of, members_of};
-ghost use Rattle.gql_tree.specs.United.{Unites, Conflict, UnitesMaybe, UnitesItems, AllJoin, others as others_of, ItemsClash, ConflictMaybe, MembersClash};
+ghost use Rattle.gql_tree.specs.inner.United.{Unites, Conflict, UnitesMaybe, UnitesItems, AllJoin, others as others_of, ItemsClash, ConflictMaybe, MembersClash};
 
 use crate::{Fields, Listed, Named, NoMemory, TryCopy, Value};
 

@@ -2,7 +2,8 @@ ghost use Rattle.std.specs.Prelude.{◌≡◌, ◌↔◌, IsTrue, IfOk};
 ghost use Rattle.std.specs.Option.{option_copied};
 ghost use Rattle.gql_tree.specs.Names.{named, apart};
 ghost use Rattle.gql_tree.specs.Flat.{find, below, members_of};
-ghost use Rattle.gql_tree.specs.Same.{SameFlat, SameLayer, SameItems, FoundIn, NamedIn};
+ghost use Rattle.gql_tree.specs.Same.{SameFlat, SameItems};
+ghost use Rattle.gql_tree.specs.inner.SameLayer.{SameLayer, FoundIn, NamedIn};
 ghost use Rattle.gql_tree.specs.declared.value.Value.{out-Value};
 
 use crate::{Fields, Key, Listed, Named, NoMemory, Text, TryCopy};

@@ -6,7 +6,7 @@ use Rattle.gql_tree.specs.declared.Stream.{Stream}
 use Rattle.gql_tree.specs.declared.Row.{Row}
 use Rattle.gql_tree.specs.declared.TaskWork.{TaskWork}
 use Rattle.gql_tree.specs.declared.TaskWork.TheVariants.{Fields, Item}
-use Rattle.gql_tree.specs.Forest.{Forest, grow, region, items_of, numbers}
+use Rattle.gql_tree.specs.Forest.{Forest, grow, region, items_to_come, numbers}
 use Rattle.gql_tree.specs.FirstPayloads.{group_regions, first_payload, later_payloads, first_payloads}
 use Rattle.gql_model.specs.declared.Node.{Node}
 use Rattle.gql_model.specs.World.{World}
@@ -18,11 +18,11 @@ module _ (f : TaskWork → Forest) where
   items-none s [] ts = refl
   items-none s (i ∷ is) ts = items-none s is ts
 
-  streams-none : (ss : List Stream) → group_regions (grow f (flat_map items_of ss)) ≡ []
+  streams-none : (ss : List Stream) → group_regions (grow f (flat_map items_to_come ss)) ≡ []
   streams-none [] = refl
-  streams-none (s ∷ ss) = items-none s (numbers s.first (s.length - s.first)) (flat_map items_of ss) ∙ streams-none ss
+  streams-none (s ∷ ss) = items-none s (numbers s.first (s.length - s.first)) (flat_map items_to_come ss) ∙ streams-none ss
 
-  group_regions-grow : (gs : List Group) (ss : List Stream) → group_regions (grow f (map Fields gs ++ flat_map items_of ss)) ≡ map (λ g. region (f (Fields g))) gs
+  group_regions-grow : (gs : List Group) (ss : List Stream) → group_regions (grow f (map Fields gs ++ flat_map items_to_come ss)) ≡ map (λ g. region (f (Fields g))) gs
   group_regions-grow [] ss = streams-none ss
   group_regions-grow (g ∷ gs) ss = ap (λ rs. region (f (Fields g)) ∷ rs) (group_regions-grow gs ss)
 

@@ -59,7 +59,7 @@ cell-person : (t : HeroTables) (n : ℕ) (p : Person) (name : LeafName) → slic
 cell-person t n p name is = cell-resolved t n name ∙ (cell_of-in_row t n (name_of name) ∙ (ap (in_row (name_of name)) (row_of-person t n p is) ∙ cell-in_row p name))
 
 -- completing a leaf's cell
-complete-leaf : (t : HeroTables) (spot : Spot) (object : Row → List Key → Part) (streams : ℕ → ℕ → List Key → Found) (name : LeafName) (c : LeafCell) (path : List Key) → complete spot object streams ((service t).shape 1 (name_of name)) None (leaf_cell c) path ≡ cell_part (is_required name) spot path c
+complete-leaf : (t : HeroTables) (spot : Spot) (object : Row → List Key → Part) (streams : ℕ → ℕ → List Key → Found) (name : LeafName) (c : LeafCell) (path : List Key) → complete spot object streams ((service t).field_type 1 (name_of name)) None (leaf_cell c) path ≡ cell_part (is_required name) spot path c
 complete-leaf t spot object streams Id Null path = refl
 complete-leaf t spot object streams Id (Int n) path = refl
 complete-leaf t spot object streams Id (Text s) path = refl
@@ -81,6 +81,6 @@ complete-leaf t spot object streams Boom (Error m) path = refl
 pub field_part-leaf : (t : HeroTables) (nodes : List Node) (object : Row → List Key → Part) (n : ℕ) (p : Person) (parent : ℕ) (leaf : Leaf) (d : Detail) → slice_get t.persons n ≡ Some p → d.key ≡ name_of leaf.name → node_of nodes d ≡ Some (leaf_node parent leaf) → field_part (service t) nodes object (person n) hero_path d ≡ leaf_part p leaf
 field_part-leaf t nodes object n p parent leaf d is key node =
     ap (executed_at (service t) nodes object (person n) hero_path d) node
-    ∙ (ap (λ (c : Cell). complete leaf.spot object (stream_at (person n) d None) ((service t).shape 1 (name_of leaf.name)) None c (hero_path ++ Named_key d.key ∷ [])) (cell-person t n p leaf.name is)
+    ∙ (ap (λ (c : Cell). complete leaf.spot object (stream_at (person n) d None) ((service t).field_type 1 (name_of leaf.name)) None c (hero_path ++ Named_key d.key ∷ [])) (cell-person t n p leaf.name is)
     ∙ (complete-leaf t leaf.spot object (stream_at (person n) d None) leaf.name (cell_under p leaf.name) (hero_path ++ Named_key d.key ∷ [])
     ∙ ap (λ (k : List ℕ). cell_part (is_required leaf.name) leaf.spot (hero_path ++ Named_key k ∷ []) (cell_under p leaf.name)) key))

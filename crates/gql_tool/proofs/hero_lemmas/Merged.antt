@@ -17,7 +17,7 @@ use Rattle.gql_tree.specs.Same.{SameFlat}
 use Rattle.gql_tree.specs.Order.{fault_cmp, failure_cmp}
 use Rattle.gql_tree.specs.Ordered.{ordered}
 use Rattle.gql_tree.specs.Forest.{Forest, Branches, grown, none}
-use Rattle.gql_tree.specs.FirstPayloads.{value_of}
+use Rattle.gql_tree.specs.FirstPayloads.{outcome_value}
 use Rattle.gql_tree.specs.Merged.{Part, Delivery, delivery, IsMerged}
 use Rattle.gql_merge.proofs.Totals.{faults_total}
 use Rattle.gql_model.specs.Complete.{fault_at, is_bubble, Part as Done}
@@ -106,7 +106,7 @@ no_leaf value same a = same (leaf_path a) ∙ (flat-hero v.Null (codes "hero") (
 
 -- data and errors are those of a region
 abbrev IsOfRegion : Value → List Fault → RegionResult → Type 0
-IsOfRegion value faults r = SameFlat value (value_of r.outcome) × (kept value faults ≡ kept value r.faults)
+IsOfRegion value faults r = SameFlat value (outcome_value r.outcome) × (kept value faults ≡ kept value r.faults)
 
 module _ (t : HeroTables) (spot hero : Spot) (leaves : List Leaf) (n : ℕ) (p : Person) (is : slice_get t.persons n ≡ Some p) where
   abbrev region_of : Bool → Option Deferred → RegionResult
@@ -216,8 +216,8 @@ plain_cell t d (hero_cells.Ref n) is once there value faults merged =
     (merged_by t d.spot d.hero d.leaves n p found.1 value faults (some_bubble p d.leaves) d.deferred refl once (subst (λ (g : Forest). IsMerged g value faults []) grown_is merged))
 
 -- where nothing failed, what is merged is the response of plain execution
-pub merged_is_plain : (t : HeroTables) (d : HeroDocument) → EachOnce d → RefStands t → (value : Value) (faults : List Fault) → IsMerged (forest (service t) (nodes_of d) query) value faults [] → (let r = plain (service t) (nodes_of d) query in SameFlat value (value_of r.outcome) × (kept value faults ≡ kept (value_of r.outcome) r.faults))
+pub merged_is_plain : (t : HeroTables) (d : HeroDocument) → EachOnce d → RefStands t → (value : Value) (faults : List Fault) → IsMerged (forest (service t) (nodes_of d) query) value faults [] → (let r = plain (service t) (nodes_of d) query in SameFlat value (outcome_value r.outcome) × (kept value faults ≡ kept (outcome_value r.outcome) r.faults))
 merged_is_plain t d once there value faults merged =
     let r = plain (service t) (nodes_of d) query in
     let same = plain_cell t d t.hero refl once there value faults merged in
-    (same.0, same.1 ∙ kept-same value (value_of r.outcome) r.faults same.0)
+    (same.0, same.1 ∙ kept-same value (outcome_value r.outcome) r.faults same.0)

@@ -20,7 +20,7 @@ use Rattle.gql_tree.specs.Keys.{same_lists, same_fragment}
 use Rattle.gql_model.specs.declared.Node.{Node}
 use Rattle.gql_model.specs.declared.NodeKind.TheVariants.{Field, Fragment}
 use Rattle.gql_model.specs.Lists.{gathered}
-use Rattle.gql_model.specs.Shape.{named}
+use Rattle.gql_model.specs.UsedType.{named}
 use Rattle.gql_model.specs.World.{World, Cell}
 use Rattle.gql_model.specs.Collect.{Met, met, met_child, met_below, children_of, merged, occurrences, fragments}
 use Rattle.gql_model.specs.Owners.{owners}

@@ -21,7 +21,7 @@ use Rattle.gql_tree.specs.declared.Payload.{Payload}
 use Rattle.gql_tree.specs.Json.{put_all, data_of}
 use Rattle.gql_tree.specs.Names.{apart}
 use Rattle.gql_tree.specs.Typed.{all_members, is_typed}
-use Rattle.gql_payload.specs.PayloadText.{members, unless_empty, if_some, key_data, path_data, location, locations, fault_data, pending_data, entry_data, completed_data, payload_data, payload_text}
+use Rattle.gql_payload.specs.PayloadText.{present, unless_empty, if_some, key_data, path_data, location_data, locations_data, fault_data, pending_data, entry_data, completed_data, payload_data, payload_text}
 use Rattle.gql_tree.specs.FirstPayloads.{first_payloads}
 use Rattle.gql_tree.proofs.Json.{data_Null, data_Int, data_Text, data_Object}
 use Rattle.gql_tree.proofs.Typed.{typed_Null, typed_Int, typed_Text, typed_Object, and_true}
@@ -82,7 +82,7 @@ abbrev names_ascii : List Member → Bool
 names_ascii [] = true
 names_ascii (m ∷ ms) = are_ascii m.0 && names_ascii ms
 
-members_utf8 : (ms : List Member) → names_ascii ms ≡ true → Each (λ m. MaybeUtf8 m.1) ms → AreUtf8Members (members ms)
+members_utf8 : (ms : List Member) → names_ascii ms ≡ true → Each (λ m. MaybeUtf8 m.1) ms → AreUtf8Members (present ms)
 members_utf8 [] names h = tt
 members_utf8 ((k, None) ∷ ms) names h = members_utf8 ms (and_parts _ _ names).1 h.1
 members_utf8 ((k, Some d) ∷ ms) names h = (IsUtf8-are_ascii k (and_parts _ _ names).0, h.0, members_utf8 ms (and_parts _ _ names).1 h.1)
@@ -174,13 +174,13 @@ FaultFits f = IsTypedFault f × IsUtf8Data (fault_data f)
 abbrev FaultsFit : List Fault → Type 0
 FaultsFit fs = Each FaultFits fs
 
-locations_utf8 : (line column : ℕ) → MaybeUtf8 (locations line column)
+locations_utf8 : (line column : ℕ) → MaybeUtf8 (locations_data line column)
 locations_utf8 line column = by_none (line == 0)
   where
-    one : IsUtf8Data (location line column)
+    one : IsUtf8Data (location_data line column)
     one = (IsUtf8-are_ascii (codes "column") refl, tt, (IsUtf8-are_ascii (codes "line") refl, tt, tt))
 
-    by_none : (b : Bool) → MaybeUtf8 (elim b [ true ↦ None | false ↦ Some (json.array (json.item (location line column) json.no_items)) ])
+    by_none : (b : Bool) → MaybeUtf8 (elim b [ true ↦ None | false ↦ Some (json.array (json.item (location_data line column) json.no_items)) ])
     by_none true = tt
     by_none false = (one, tt)
 

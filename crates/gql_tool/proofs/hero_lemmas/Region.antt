@@ -18,7 +18,7 @@ use Rattle.gql_tree.specs.declared.Value.TheVariants as v
 use Rattle.gql_tree.specs.declared.Outcome.TheVariants.{Good}
 use Rattle.gql_tree.specs.declared.RegionResult.{RegionResult}
 use Rattle.gql_model.specs.declared.Node.{Node}
-use Rattle.gql_model.specs.Shape.{named}
+use Rattle.gql_model.specs.UsedType.{named}
 use Rattle.gql_model.specs.World.{World, Cell}
 use Rattle.gql_model.specs.Collect.{Met, met, merged, fragments}
 use Rattle.gql_model.specs.Complete.{Part, Found, bubble, good, no_found, value_in, found_in, with_parts, whole, soft, complete}

@@ -23,7 +23,7 @@ use Rattle.gql_tree.specs.declared.Content.TheVariants.{Fields}
 use Rattle.gql_tree.specs.declared.Completed.{Completed}
 use Rattle.gql_tree.specs.declared.Payload.{Payload}
 use Rattle.gql_tree.specs.Json.{put_all, data_of}
-use Rattle.gql_payload.specs.PayloadText.{members, object, unless_empty, if_some, key_data, path_data, location, locations, fault_data, pending_data, entry_data, completed_data, payload_data}
+use Rattle.gql_payload.specs.PayloadText.{present, object_with, unless_empty, if_some, key_data, path_data, location_data, locations_data, fault_data, pending_data, entry_data, completed_data, payload_data}
 use Rattle.gql_tree.specs.Sound.{IsSound, IsLocated, is_object, is_object_or_null}
 use Rattle.gql_tree.specs.FirstPayloads.{first_payloads}
 use Rattle.gql_tree.proofs.Json.{data_Null, data_Int, data_Text, data_Object}
@@ -194,22 +194,22 @@ MaybeMembers = List (List ℕ × Option Data)
 abbrev Below : ℕ → List ℕ × Option Data → Type 0
 Below n m = IfSome m.1 (λ d. depth d ≤ n)
 
-members_below : (ms : MaybeMembers) (n : ℕ) → AllByRecursion (Below n) ms → members_depth (members ms) ≤ n
+members_below : (ms : MaybeMembers) (n : ℕ) → AllByRecursion (Below n) ms → members_depth (present ms) ≤ n
 members_below [] n h = omega arith
 members_below ((k, None) ∷ ms) n h = members_below ms n h.1
-members_below ((k, Some d) ∷ ms) n h = no_more (depth d) (members_depth (members ms)) n h.0 (members_below ms n h.1)
+members_below ((k, Some d) ∷ ms) n h = no_more (depth d) (members_depth (present ms)) n h.0 (members_below ms n h.1)
 
-object_below : (ms : MaybeMembers) (n : ℕ) → AllByRecursion (Below n) ms → depth (object ms) ≤ suc n
+object_below : (ms : MaybeMembers) (n : ℕ) → AllByRecursion (Below n) ms → depth (object_with ms) ≤ suc n
 object_below ms n h = let k = members_below ms n h in omega (arith, k)
 
 unless_empty_below : {X : Type 0} (f : X → Data) (n : ℕ) → ((x : X) → depth (f x) ≤ n) → (xs : List X) → IfSome (unless_empty f xs) (λ d. depth d ≤ suc n)
 unless_empty_below f n h [] = tt
 unless_empty_below f n h (x ∷ xs) = let k = array_depth f n h (x ∷ xs) in omega (arith, k)
 
-locations_below : (line column : ℕ) → IfSome (locations line column) (λ d. depth d ≤ 2)
+locations_below : (line column : ℕ) → IfSome (locations_data line column) (λ d. depth d ≤ 2)
 locations_below line column = by_none (line == 0)
   where
-    by_none : (b : Bool) → IfSome (elim b [ true ↦ None | false ↦ Some (json.array (json.item (location line column) json.no_items)) ]) (λ d. depth d ≤ 2)
+    by_none : (b : Bool) → IfSome (elim b [ true ↦ None | false ↦ Some (json.array (json.item (location_data line column) json.no_items)) ]) (λ d. depth d ≤ 2)
     by_none true = tt
     by_none false = omega arith
 
@@ -226,7 +226,7 @@ if_more_below None n = tt
 if_more_below (Some b) n = omega arith
 
 abbrev fault_members : Fault → MaybeMembers
-fault_members f = (codes "locations", locations f.line f.column) ∷ (codes "message", Some (json.string f.message)) ∷ (codes "path", if_some path_data f.path) ∷ []
+fault_members f = (codes "locations", locations_data f.line f.column) ∷ (codes "message", Some (json.string f.message)) ∷ (codes "path", if_some path_data f.path) ∷ []
 
 fault_depth : (f : Fault) → depth (fault_data f) ≤ 3
 fault_depth f = object_below (fault_members f) 2 (locations_below f.line f.column, (omega arith, (if_path_below f.path, tt)))

@@ -1,6 +1,6 @@
 -- The service of heroes: its schema's types, and what they and its tables say to execution.
 use Rattle.std.specs.Prelude.{ℕ, List, [], ◌∷◌, codes}
-use Rattle.gql_model.specs.Shape.{Shape, named, list, non_null}
+use Rattle.gql_model.specs.UsedType.{UsedType, named, list, non_null}
 use Rattle.gql_model.specs.World.{World}
 use Rattle.gql_model.specs.Tables.{Kind, world, by_name}
 use Rattle.gql_tree.specs.declared.Row.{Row}
@@ -8,13 +8,13 @@ use Rattle.gql_tool.specs.declared.hero.tables.HeroTables.{HeroTables}
 use Rattle.gql_tool.specs.hero.HeroTables.{tables_of}
 
 -- the built-in scalars stand behind the two object types
-abbrev pub int : Shape
+abbrev pub int : UsedType
 int = named 2
 
-abbrev pub string : Shape
+abbrev pub string : UsedType
 string = named 3
 
-abbrev pub id_type : Shape
+abbrev pub id_type : UsedType
 id_type = named 5
 
 abbrev pub scalar : List ℕ → Kind

@@ -3,7 +3,7 @@
 ghost use Rattle.std.specs.Prelude.{◌≡◌, ℕ, List, [], Some};
 ghost use Rattle.gql_tree.specs.declared.Value.{Value};
 ghost use Rattle.gql_tree.specs.declared.Fault.{Fault};
-ghost use Rattle.gql_tree.specs.FirstPayloads.{value_of};
+ghost use Rattle.gql_tree.specs.FirstPayloads.{outcome_value};
 ghost use Rattle.gql_tree.specs.Same.{SameFlat};
 ghost use Rattle.gql_tree.specs.Merged.{IsMerged};
 ghost use Rattle.gql_model.specs.Plain.{plain, kept};
@@ -25,11 +25,11 @@ pub fn a_response_without_failures_is_plain()
     ensures data { (vars schema tables document : List ℕ) (t : HeroTables) (d : HeroDocument) (value : Value) (faults : List Fault)
         → IsBuilt vars schema tables document t d
         → IsMerged (regions t d) value faults []
-        → SameFlat value (value_of (plain (service t) (nodes_of d) query).outcome) }
+        → SameFlat value (outcome_value (plain (service t) (nodes_of d) query).outcome) }
     ensures errors { (vars schema tables document : List ℕ) (t : HeroTables) (d : HeroDocument) (value : Value) (faults : List Fault)
         → IsBuilt vars schema tables document t d
         → IsMerged (regions t d) value faults []
-        → (let r = plain (service t) (nodes_of d) query in kept value faults ≡ kept (value_of r.outcome) r.faults) }
+        → (let r = plain (service t) (nodes_of d) query in kept value faults ≡ kept (outcome_value r.outcome) r.faults) }
 {}
 
 /// The documents that are executed are the queries of the hero, written as documents.
@@ -40,7 +40,7 @@ pub fn executed_documents()
 
 /// The operations that worked queries of the hero are.
 pub fn worked_documents()
-    ensures plain { nodes_of plain_hero ≡ sample.plain }
+    ensures plain { nodes_of plain_hero ≡ sample.one_field }
     ensures deferred { nodes_of deferred_hero ≡ sample.one_deferred }
     ensures bubbling { nodes_of bubbling_hero ≡ sample.bubbling }
 {}

@@ -4,7 +4,7 @@ use Rattle.gql_tree.specs.declared.fields.Named.{Named}
 use Rattle.gql_tree.specs.declared.unite.Unlike.TheVariants.{Clash}
 use Rattle.gql_tree.specs.declared.value.Value.{Value}
 use Rattle.gql_tree.specs.Names.{named, apart}
-use Rattle.gql_tree.specs.United.{UnitesMaybe, UnitesItems, AllJoin, others, ItemsClash, ConflictMaybe, MembersClash}
+use Rattle.gql_tree.specs.inner.United.{UnitesMaybe, UnitesItems, AllJoin, others, ItemsClash, ConflictMaybe, MembersClash}
 use Rattle.gql_tree.proofs.Union.{list_union, object_union, union_step, join_step, clash_here, items_clash, members_clash, member_clash, ok_map, join_names, join_apart}
 use Rattle.gql_tree.proofs.Apart.{joined_apart}
 use Rattle.std.proofs.lemmas.List.{take_all}

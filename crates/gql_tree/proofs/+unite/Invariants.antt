@@ -1,5 +1,5 @@
 use Rattle.std.proofs.Common.{take}
-use Rattle.gql_tree.specs.United.{UnitesItems, AllJoin}
+use Rattle.gql_tree.specs.inner.United.{UnitesItems, AllJoin}
 use Rattle.gql_tree.proofs.+unite.Given as goal
 
 abbrev pub invariant-unite::united_items-loop-i : goal.invariant-unite::united_items-loop-i

@@ -1,6 +1,6 @@
 use Rattle.std.proofs.Common.{◌+◌, sym, ◌∙◌, ap, arith, [], ◌∷◌, ◌++◌, drop}
 use Rattle.gql_tree.specs.Names.{has_name}
-use Rattle.gql_tree.specs.United.{others}
+use Rattle.gql_tree.specs.inner.United.{others}
 use Rattle.gql_tree.proofs.Union.{others_skipped, others_pushed}
 use Rattle.gql_tree.proofs.unite.push_others.Goals as goal
 use Rattle.gql_tree.proofs.unite.push_others.Goals.{then-not-has+in_ok-name+in_ok-value+in_ok-push, else-not-has}

@@ -1,5 +1,5 @@
 use Rattle.std.proofs.Common.{◌≡◌, ◌++◌, drop}
-use Rattle.gql_tree.specs.United.{others}
+use Rattle.gql_tree.specs.inner.United.{others}
 use Rattle.gql_tree.proofs.unite.push_others.Given as goal
 
 abbrev pub invariant-loop-other : goal.invariant-loop-other

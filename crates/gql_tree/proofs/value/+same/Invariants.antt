@@ -1,5 +1,6 @@
 use Rattle.std.proofs.Common.{◌≡◌, ◌↔◌, drop, length}
-use Rattle.gql_tree.specs.Same.{SameItems, FoundIn}
+use Rattle.gql_tree.specs.Same.{SameItems}
+use Rattle.gql_tree.specs.inner.SameLayer.{FoundIn}
 use Rattle.gql_tree.proofs.value.+same.Given as goal
 
 abbrev pub invariant-found_in-loop-member : goal.invariant-found_in-loop-member

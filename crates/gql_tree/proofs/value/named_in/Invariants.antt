@@ -1,5 +1,5 @@
 use Rattle.std.proofs.Common.{◌↔◌, drop}
-use Rattle.gql_tree.specs.Same.{NamedIn}
+use Rattle.gql_tree.specs.inner.SameLayer.{NamedIn}
 use Rattle.gql_tree.proofs.value.named_in.Given as goal
 
 abbrev pub invariant-loop-member : goal.invariant-loop-member

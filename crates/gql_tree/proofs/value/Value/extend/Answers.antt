@@ -2,7 +2,7 @@ use Rattle.std.proofs.Common.{◌≡◌, rules, refl, sym, subst, ◌∙◌, ap,
 use Rattle.gql_tree.specs.declared.value.Value.{Value, out-Value}
 use Rattle.gql_tree.specs.declared.value.Value.TheVariants as v
 use Rattle.gql_tree.specs.Flat.{flat, find, items_of}
-use Rattle.gql_tree.specs.Place.{put_at}
+use Rattle.gql_tree.specs.inner.Place.{put_at}
 use Rattle.gql_tree.specs.Extended.{IsLonger}
 use Rattle.gql_tree.proofs.Put.{find_put, put_twice, put_back}
 use Rattle.gql_tree.proofs.Extended.{longer, list_again}

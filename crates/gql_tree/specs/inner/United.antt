@@ -10,6 +10,7 @@ use Rattle.gql_tree.specs.Union.{IsUnion, Clashes}
 abbrev pub Unites : Value → Value → Value → Type 0
 Unites r a b = IsUnion (flat r) (flat a) (flat b)
 
+-- some path has two different marks in the two
 abbrev pub Conflict : Value → Value → Type 0
 Conflict a b = Clashes (flat a) (flat b)
 
@@ -21,6 +22,7 @@ UnitesMaybe (Some r) None (Some b) = r ≡ b
 UnitesMaybe (Some r) (Some a) (Some b) = Unites r a b
 UnitesMaybe _ _ _ = ⊥
 
+-- item by item
 abbrev pub UnitesItems : List Value → List Value → List Value → Type 0
 UnitesItems [] [] [] = Unit {0}
 UnitesItems (r ∷ rs) (x ∷ xs) (y ∷ ys) = Unites r x y × UnitesItems rs xs ys
@@ -30,6 +32,7 @@ UnitesItems _ _ _ = ⊥
 abbrev pub Joins : List (Named Value) → Named Value → Named Value → Type 0
 Joins ns r m = (r.name ≡ m.name) × UnitesMaybe (Some r.value) (Some m.value) (named m.name ns)
 
+-- each of the first is its member of the second, joined
 abbrev pub AllJoin : List (Named Value) → List (Named Value) → List (Named Value) → Type 0
 AllJoin ns [] [] = Unit {0}
 AllJoin ns (r ∷ rs) (m ∷ ms) = Joins ns r m × AllJoin ns rs ms
@@ -40,11 +43,14 @@ abbrev pub others : List (Named Value) → List (Named Value) → List (Named Va
 others ms [] = []
 others ms (n ∷ ns) = cond (has_name n.name ms) (others ms ns) (n ∷ others ms ns)
 
+-- two items at one index conflict
 abbrev pub ItemsClash : List Value → List Value → Type 0
 ItemsClash xs ys = (i : ℕ) × (x : Value) × (y : Value) × (slice_get xs i ≡ Some x) × (slice_get ys i ≡ Some y) × Conflict x y
 
+-- the same of a value that may be missing
 abbrev pub ConflictMaybe : Value → Option Value → Type 0
 ConflictMaybe v o = (w : Value) × (o ≡ Some w) × Conflict v w
 
+-- two members of one name conflict
 abbrev pub MembersClash : List (Named Value) → List (Named Value) → Type 0
 MembersClash ms ns = (n : List ℕ) × (x : Value) × (y : Value) × (named n ms ≡ Some x) × (named n ns ≡ Some y) × Conflict x y

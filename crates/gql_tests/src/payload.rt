@@ -1,36 +1,12 @@
 //! Payloads and texts that are written out by hand.
 
-use crate::{PayloadRefusal, decode, encode};
+use crate::values::{object, path, text};
+use gql_payload::{decode, encode};
 use gql_tree::{
-    Bytes, Completed, Content, Entry, Fault, Fields, Key, Listed, NoMemory, Path, Payload, Pending,
-    Text, Value,
+    Bytes, Completed, Content, Entry, Fault, Listed, NoMemory, Payload, Pending, Value,
 };
 use std::alloc::Global;
 use std::test::Fail;
-
-fn text(alloc: Global, letters: &str) -> Result<Text, NoMemory> {
-    Text::copy_of(alloc, letters)
-}
-
-fn list<T: Drop>(alloc: Global, item: T) -> Result<Listed<T>, NoMemory> {
-    let mut items = Listed::new(alloc);
-    items.push(item)?;
-    Ok(items)
-}
-
-fn object(alloc: Global, name: &str, value: Value) -> Result<Value, NoMemory> {
-    let mut fields = Fields::new(alloc);
-    fields.insert(text(alloc, name)?, value)?;
-    Ok(Value::Object(fields))
-}
-
-fn path(alloc: Global, names: &[&str]) -> Result<Path, NoMemory> {
-    let mut keys = Listed::new(alloc);
-    for name in names {
-        keys.push(Key::Name(text(alloc, name)?))?;
-    }
-    Ok(Path { keys })
-}
 
 fn blank(alloc: Global, has_next: Option<bool>) -> Payload {
     Payload {
@@ -44,7 +20,7 @@ fn blank(alloc: Global, has_next: Option<bool>) -> Payload {
 }
 
 /// An entry of id 0 with the name of the hero, at a path below its fragment's.
-fn luke(alloc: Global, sub_path: &[&str]) -> Result<Entry, NoMemory> {
+fn luke(alloc: Global, sub_path: &str) -> Result<Entry, NoMemory> {
     let name = Value::Text(text(alloc, "Luke")?);
     Ok(Entry {
         id: text(alloc, "0")?,
@@ -61,7 +37,7 @@ fn announced(alloc: Global) -> Result<Payload, NoMemory> {
     payload.initial = Some(object(alloc, "hero", hero)?);
     payload.pending.push(Pending {
         id: text(alloc, "0")?,
-        path: path(alloc, &["hero"])?,
+        path: path(alloc, "hero")?,
         label: Some(text(alloc, "D")?),
     })?;
     Ok(payload)
@@ -70,7 +46,7 @@ fn announced(alloc: Global) -> Result<Payload, NoMemory> {
 /// Its second payload.
 fn delivered(alloc: Global) -> Result<Payload, NoMemory> {
     let mut payload = blank(alloc, Some(false));
-    payload.incremental.push(luke(alloc, &[])?)?;
+    payload.incremental.push(luke(alloc, "")?)?;
     payload.completed.push(Completed {
         id: text(alloc, "0")?,
         errors: Listed::new(alloc),
@@ -86,7 +62,7 @@ fn failed(alloc: Global) -> Result<Payload, NoMemory> {
         message: text(alloc, "bang")?,
         line: 1,
         column: 13,
-        path: Some(path(alloc, &["hero", "boom"])?),
+        path: Some(path(alloc, "hero/boom")?),
     })?;
     Ok(payload)
 }
@@ -94,10 +70,10 @@ fn failed(alloc: Global) -> Result<Payload, NoMemory> {
 /// A later payload with fields below its fragment's path, and with no further items.
 fn continued(alloc: Global) -> Result<Payload, NoMemory> {
     let mut payload = blank(alloc, Some(true));
-    payload.incremental.push(luke(alloc, &["hero"])?)?;
+    payload.incremental.push(luke(alloc, "hero")?)?;
     payload.incremental.push(Entry {
         id: text(alloc, "1")?,
-        sub_path: path(alloc, &[])?,
+        sub_path: path(alloc, "")?,
         content: Content::Items(Listed::new(alloc)),
         errors: Listed::new(alloc),
     })?;
@@ -132,14 +108,11 @@ fn writes_payloads(rt: HostRuntime) -> Result<(), Fail> {
     Ok(())
 }
 
-/// The text of the payload that the bytes are, or why they are none: a wrong member is its name.
+/// The text of the payload that the bytes are, or the name of why they are none.
 fn read_and_written(alloc: Global, bytes: &[u8]) -> Result<Bytes, NoMemory> {
     match decode(alloc, bytes) {
         Ok(payload) => encode(alloc, &payload),
-        Err(PayloadRefusal::NotJson) => Bytes::copy_of(alloc, b"not json"),
-        Err(PayloadRefusal::NotAnObject) => Bytes::copy_of(alloc, b"not an object"),
-        Err(PayloadRefusal::Wrong { member }) => Bytes::copy_of(alloc, member.as_str().as_bytes()),
-        Err(PayloadRefusal::NoMemory) => Err(NoMemory),
+        Err(refusal) => Bytes::copy_of(alloc, refusal.name(alloc)?.as_str().as_bytes()),
     }
 }
 
@@ -201,75 +174,75 @@ fn reads_what_others_write(rt: HostRuntime) -> Result<(), Fail> {
 fn refuses_what_is_no_payload(rt: HostRuntime) -> Result<(), Fail> {
     let alloc = rt.alloc();
     for (bytes, want) in [
-        (b"".as_slice(), "not json"),
-        (b"\xff", "not json"),
-        (b"{\"x\":\"\xff\"}", "not json"),
-        (b"\xef\xbb\xbf{}", "not json"),
-        (b"{\"x\":1e400}", "not json"),
-        (b"{\"x\":\"\\ud800\"}", "not json"),
-        (b"{} {}", "not json"),
-        (b"[]", "not an object"),
-        (b"null", "not an object"),
-        (b"{\"pending\":1,\"completed\":{}}", "completed"),
-        (b"{\"completed\":[{}]}", "completed"),
-        (b"{\"completed\":[{\"id\":0}]}", "completed"),
+        (b"".as_slice(), "NotJson"),
+        (b"\xff", "NotJson"),
+        (b"{\"x\":\"\xff\"}", "NotJson"),
+        (b"\xef\xbb\xbf{}", "NotJson"),
+        (b"{\"x\":1e400}", "NotJson"),
+        (b"{\"x\":\"\\ud800\"}", "NotJson"),
+        (b"{} {}", "NotJson"),
+        (b"[]", "NotAnObject"),
+        (b"null", "NotAnObject"),
+        (b"{\"pending\":1,\"completed\":{}}", "Wrong completed"),
+        (b"{\"completed\":[{}]}", "Wrong completed"),
+        (b"{\"completed\":[{\"id\":0}]}", "Wrong completed"),
         (
             b"{\"completed\":[{\"id\":\"0\",\"errors\":[1]}]}",
-            "completed",
+            "Wrong completed",
         ),
-        (b"{\"data\":[],\"errors\":1}", "data"),
-        (b"{\"data\":{\"a\":-0}}", "data"),
-        (b"{\"data\":{\"a\":[1.0]}}", "data"),
-        (b"{\"data\":{\"a\":9223372036854775808}}", "data"),
-        (b"{\"errors\":{},\"hasNext\":1}", "errors"),
-        (b"{\"errors\":[{\"message\":null}]}", "errors"),
+        (b"{\"data\":[],\"errors\":1}", "Wrong data"),
+        (b"{\"data\":{\"a\":-0}}", "Wrong data"),
+        (b"{\"data\":{\"a\":[1.0]}}", "Wrong data"),
+        (b"{\"data\":{\"a\":9223372036854775808}}", "Wrong data"),
+        (b"{\"errors\":{},\"hasNext\":1}", "Wrong errors"),
+        (b"{\"errors\":[{\"message\":null}]}", "Wrong errors"),
         (
             b"{\"errors\":[{\"message\":\"m\",\"path\":[-1]}]}",
-            "errors",
+            "Wrong errors",
         ),
         (
             b"{\"errors\":[{\"message\":\"m\",\"path\":[4294967296]}]}",
-            "errors",
+            "Wrong errors",
         ),
         (
             b"{\"errors\":[{\"message\":\"m\",\"locations\":{}}]}",
-            "errors",
+            "Wrong errors",
         ),
         (
             b"{\"errors\":[{\"message\":\"m\",\"locations\":[{\"line\":1}]}]}",
-            "errors",
+            "Wrong errors",
         ),
         (
             b"{\"errors\":[{\"message\":\"m\",\"locations\":[{\"line\":0,\"column\":1}]}]}",
-            "errors",
+            "Wrong errors",
         ),
         (
             b"{\"errors\":[{\"message\":\"m\",\"locations\":[{\"line\":1.0,\"column\":1}]}]}",
-            "errors",
+            "Wrong errors",
         ),
-        (b"{\"hasNext\":0,\"incremental\":0}", "hasNext"),
-        (b"{\"incremental\":{},\"pending\":0}", "incremental"),
-        (b"{\"incremental\":[{\"id\":\"0\"}]}", "incremental"),
+        (b"{\"hasNext\":0,\"incremental\":0}", "Wrong hasNext"),
+        (b"{\"incremental\":{},\"pending\":0}", "Wrong incremental"),
+        (b"{\"incremental\":[{\"id\":\"0\"}]}", "Wrong incremental"),
         (
             b"{\"incremental\":[{\"id\":\"0\",\"data\":null}]}",
-            "incremental",
+            "Wrong incremental",
         ),
         (
             b"{\"incremental\":[{\"id\":\"0\",\"data\":{},\"items\":[]}]}",
-            "incremental",
+            "Wrong incremental",
         ),
         (
             b"{\"incremental\":[{\"id\":\"0\",\"items\":[0.5]}]}",
-            "incremental",
+            "Wrong incremental",
         ),
         (
             b"{\"incremental\":[{\"id\":\"0\",\"data\":{},\"subPath\":[null]}]}",
-            "incremental",
+            "Wrong incremental",
         ),
-        (b"{\"pending\":[{\"id\":\"0\"}]}", "pending"),
+        (b"{\"pending\":[{\"id\":\"0\"}]}", "Wrong pending"),
         (
             b"{\"pending\":[{\"id\":\"0\",\"path\":[],\"label\":5}]}",
-            "pending",
+            "Wrong pending",
         ),
     ] {
         let told = read_and_written(alloc, bytes)?;
@@ -294,7 +267,7 @@ fn nested(alloc: Global, lists: u32) -> Result<String, Fail> {
 #[test]
 fn nests_at_most_127_deep(rt: HostRuntime) -> Result<(), Fail> {
     let alloc = rt.alloc();
-    for (lists, want) in [(126, "{}"), (127, "not json")] {
+    for (lists, want) in [(126, "{}"), (127, "NotJson")] {
         let text = nested(alloc, lists)?;
         let told = read_and_written(alloc, text.as_str().as_bytes())?;
         assert_eq!(rt; told.as_slice(), want.as_bytes());

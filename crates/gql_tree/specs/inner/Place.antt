@@ -31,21 +31,20 @@ abbrev pub put_at : List Key → Value → Value → Value
 put_at [] w v = w
 put_at (k ∷ ks) w v = roll-Value (change_below k (put_at ks w) (out-Value v))
 
--- where the first member of this name stands, and the number of members where there is none
-abbrev pub place_of : List ℕ → List (Named Value) → ℕ
-place_of n [] = 0
-place_of n (m ∷ ms) = cond (bytes_eq m.name n) 0 (suc (place_of n ms))
-
+-- what stands at a path below an item
 abbrev pub find_item : List Key → ℕ → List Value → Option Value
 find_item ks i vs = option_and_then (λ w. find w ks) (slice_get vs i)
 
+-- what stands at a path below the member of a name
 abbrev pub find_named : List Key → List ℕ → List (Named Value) → Option Value
 find_named ks n ms = option_and_then (λ w. find w ks) (named n ms)
 
+-- it is an object
 abbrev pub IsObject : Layer → Type 0
 IsObject (Value-F.Object members) = Unit {0}
 IsObject _ = ⊥
 
+-- it is a list
 abbrev pub IsList : Layer → Type 0
 IsList (Value-F.List items) = Unit {0}
 IsList _ = ⊥
