@@ -23,8 +23,6 @@ mod quoted_string;
 mod refusal;
 mod selections;
 mod string_token;
-#[cfg(test)]
-mod tests;
 mod tokens;
 mod values;
 mod variables;

@@ -14,9 +14,6 @@ use gql_model::{
 use gql_tree::{Listed, NoMemory, Text};
 use std::alloc::Global;
 
-#[cfg(test)]
-mod tests;
-
 /// Prints a document: its tokens, with one space between two.
 ///
 /// A query without a name, variables and directives is its selection set alone, and a string is
