@@ -1,17 +1,18 @@
 -- Tokens that say the same to the grammar: where some are a phrase, others that are alike are one of the same value.
 use Rattle.std.proofs.Common.{◌≡◌, ℕ, suc, inl, inr, Bool, true, false, List, [], ◌∷◌, ◌++◌, map, Option, Some, None, refl, sym, ◌∙◌, ap, subst}
-use Rattle.std.specs.Prelude.{◌||◌, if◌then◌else◌, option_and_then}
+use Rattle.std.specs.Prelude.{◌&&◌, ◌||◌, codes, if◌then◌else◌, option_and_then}
+use Rattle.std.specs.Str.{bytes_eq}
 use Rattle.gql_lex.specs.Tokens.{Lexeme}
 use Rattle.gql_doc.specs.StringValue.{string_value}
 use Rattle.gql_doc.specs.Phrase.{Phrase, token, returns, ◌>>=◌, either, never, many, some, optional, listed}
 use Rattle.gql_lex.specs.declared.token.TokenKind.{TokenKind}
 use Rattle.gql_lex.specs.declared.token.TokenKind.TheVariants as kind
-use Rattle.gql_doc.specs.Marks.{is_mark, is_mark_of, is_name, is_name_kind, is_number, is_string}
+use Rattle.gql_doc.specs.Terminals.{is_punctuator, is_punctuator_kind, is_name, is_name_kind, is_number, is_string}
 use Rattle.gql_doc.specs.Nesting.{taken, room_behind, room_after}
 
 -- two tokens of one class, and of one text or one value where it matters
 pub record Alike (token other : Lexeme) : Type 0 where
-  pub marks : (byte : ℕ) → is_mark byte other ≡ is_mark byte token
+  pub punctuators : (text : List ℕ) → is_punctuator text other ≡ is_punctuator text token
   pub names : is_name other ≡ is_name token
   pub numbers : is_number other ≡ is_number token
   pub strings : is_string other ≡ is_string token
@@ -133,20 +134,20 @@ room_by ts os same None = refl
 room_by ts os same (Some room) = same room
 
 behind_alike : (room : ℕ) (t o : Lexeme) → Alike t o → room_behind room o ≡ room_behind room t
-behind_alike room t o alike = λ i. if alike.marks 91 i || alike.marks 123 i then taken room else (if alike.marks 93 i || alike.marks 125 i then Some (suc room) else Some room)
+behind_alike room t o alike = λ i. if alike.punctuators (codes "[") i || alike.punctuators (codes "{") i then taken room else (if alike.punctuators (codes "]") i || alike.punctuators (codes "}") i then Some (suc room) else Some room)
 
 -- a name opens and closes nothing
-name_by : (kind : TokenKind) (text : List ℕ) (byte : ℕ) → is_name_kind kind ≡ true → is_mark_of kind text byte ≡ false
-name_by kind.Name text byte h = refl
-name_by kind.Int text byte h = absurd (cc)
-name_by kind.Punctuator text byte h = absurd (cc)
-name_by kind.Quoted text byte h = absurd (cc)
-name_by kind.Block text byte h = absurd (cc)
+name_by : (kind : TokenKind) (own text : List ℕ) → is_name_kind kind ≡ true → (is_punctuator_kind kind && bytes_eq own text) ≡ false
+name_by kind.Name own text h = refl
+name_by kind.Int own text h = absurd (cc)
+name_by kind.Punctuator own text h = absurd (cc)
+name_by kind.Quoted own text h = absurd (cc)
+name_by kind.Block own text h = absurd (cc)
 
 pub name_opens_none : (t : Lexeme) (room : ℕ) → is_name t ≡ true → room_behind room t ≡ Some room
 name_opens_none t room h =
-    let no = λ (byte : ℕ). name_by t.kind t.text byte h in
-    λ i. if no 91 i || no 123 i then taken room else (if no 93 i || no 125 i then Some (suc room) else Some room)
+    let no = λ (text : List ℕ). name_by t.kind t.text text h in
+    λ i. if no (codes "[") i || no (codes "{") i then taken room else (if no (codes "]") i || no (codes "}") i then Some (suc room) else Some room)
 
 -- tokens that are alike nest alike
 pub room_alike : (ts os : List Lexeme) → AreAlike ts os → (room : ℕ) → room_after room os ≡ room_after room ts

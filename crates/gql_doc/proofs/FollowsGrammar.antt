@@ -6,7 +6,7 @@ use Rattle.gql_tree.specs.declared.delivery.Spot.{Spot}
 use Rattle.gql_lex.specs.Tokens.{Lexeme}
 use Rattle.gql_doc.specs.StringValue.{string_value}
 use Rattle.gql_doc.specs.Phrase.{Phrase, token}
-use Rattle.gql_doc.specs.Marks.{is_mark, is_name, is_number, is_string, is_word, is_fragment_name, is_operation_type}
+use Rattle.gql_doc.specs.Terminals.{is_punctuator, is_name, is_number, is_string, is_word, is_fragment_name, is_operation_type}
 use Rattle.gql_doc.specs.Grammar
 use Rattle.gql_doc.specs.Unplaced.{nowhere, unplaced_value, unplaced_argument, unplaced_directive, unplaced_type, unplaced_variable, unplaced_selection, unplaced_definition, unplaced}
 use Rattle.gql_doc.proofs.UnplacedForms.{unplaced_Variable, unplaced_Int, unplaced_Text, unplaced_Bool, unplaced_Null, unplaced_Enum, unplaced_List, unplaced_Object, unplaced_argument-roll, unplaced_Named, unplaced_ListType, unplaced_NonNull, unplaced_Field, unplaced_Spread, unplaced_Inline}
@@ -34,8 +34,8 @@ SameText t o = t.text ≡ o.text
 same_word : (test : Bool → List ℕ → Bool) (t o : Lexeme) → Alike t o → is_name t ≡ true → test (is_name t) t.text ≡ true → test (is_name o) o.text ≡ true
 same_word test t o alike named h = (λ i. test (alike.names i) (sym (alike.name named) i)) ∙ h
 
-pub follows_mark : (byte : ℕ) → Follows (Grammar.mark byte) (Grammar.mark byte) (Any {A = Lexeme} {B = Lexeme})
-follows_mark byte = follows_token (is_mark byte) (λ t o alike h. (alike.marks byte ∙ h, tt))
+pub follows_punctuator : (text : List ℕ) → Follows (Grammar.punctuator text) (Grammar.punctuator text) (Any {A = Lexeme} {B = Lexeme})
+follows_punctuator text = follows_token (is_punctuator text) (λ t o alike h. (alike.punctuators text ∙ h, tt))
 
 pub follows_name : Follows Grammar.name Grammar.name SameText
 follows_name = follows_token is_name (λ t o alike h. (alike.names ∙ h, alike.name h))
@@ -61,10 +61,10 @@ follows_operation_type = follows_token is_operation_type (λ t o alike h.
     let named : is_name t ≡ true = operation_type_named t h in
     (same_word operation_test t o alike named h, alike.name named))
 
--- what stands between two marks
-pub follows_between : {A B : Type 0} {p : Phrase A} {q : Phrase B} {S : A → B → Type 0} (opening closing : ℕ) → Follows p q S → Follows (Grammar.between opening p closing) (Grammar.between opening q closing) (λ x y. S x.1 y.1)
+-- what stands between two punctuators
+pub follows_between : {A B : Type 0} {p : Phrase A} {q : Phrase B} {S : A → B → Type 0} (opening closing : List ℕ) → Follows p q S → Follows (Grammar.between opening p closing) (Grammar.between opening q closing) (λ x y. S x.1 y.1)
 follows_between opening closing inside =
-    follows_bind (follows_mark opening) (λ a b _. follows_bind inside (λ x y same. follows_bind (follows_mark closing) (λ c d _. follows_returns same)))
+    follows_bind (follows_punctuator opening) (λ a b _. follows_bind inside (λ x y same. follows_bind (follows_punctuator closing) (λ c d _. follows_returns same)))
 
 -- ---- values
 
@@ -95,7 +95,7 @@ word_same t o same = unplaced_word_of t.text t.spot ∙ (ap (λ text. word_of te
 
 follows_variable : (constant : Bool) → Follows (Grammar.variable constant) (Grammar.variable constant) SameValue
 follows_variable true = follows_never
-follows_variable false = follows_bind (follows_mark 36) (λ a b _. follows_bind follows_name (λ t o same.
+follows_variable false = follows_bind (follows_punctuator (codes "$")) (λ a b _. follows_bind follows_name (λ t o same.
     follows_returns (unplaced_Variable t.text a.spot ∙ (ap (λ name. literal.Variable name nowhere) same ∙ sym (unplaced_Variable o.text b.spot)))))
 
 follows_simple : (constant : Bool) → Follows (Grammar.simple_value constant) (Grammar.simple_value constant) SameValue
@@ -107,7 +107,7 @@ follows_simple constant =
 
 follows_argument : {p q : Phrase Literal} → Follows p q SameValue → Follows (Grammar.argument p) (Grammar.argument q) (By unplaced_argument)
 follows_argument value =
-    follows_bind follows_name (λ t o same. follows_bind (follows_mark 58) (λ c d _. follows_bind value (λ x y is. follows_returns (
+    follows_bind follows_name (λ t o same. follows_bind (follows_punctuator (codes ":")) (λ c d _. follows_bind value (λ x y is. follows_returns (
     unplaced_argument-roll (record { name = t.text; value = x; spot = t.spot })
     ∙ ((λ i. roll-Argument (record { name = same i; value = is i; spot = nowhere }))
     ∙ sym (unplaced_argument-roll (record { name = o.text; value = y; spot = o.spot })))))))
@@ -118,18 +118,18 @@ follows_value constant (suc depth) =
     let inside : Follows (Grammar.value constant depth) (Grammar.value constant depth) SameValue = follows_value constant depth in
     follows_either (follows_simple constant)
     (follows_either
-    (follows_bind (follows_between 91 93 (follows_many unplaced_value inside)) (λ x y same.
+    (follows_bind (follows_between (codes "[") (codes "]") (follows_many unplaced_value inside)) (λ x y same.
     follows_returns (unplaced_List x.1 x.0 ∙ (ap (λ items. literal.List items nowhere) same ∙ sym (unplaced_List y.1 y.0)))))
-    (follows_bind (follows_between 123 125 (follows_many unplaced_argument (follows_argument inside))) (λ x y same.
+    (follows_bind (follows_between (codes "{") (codes "}") (follows_many unplaced_argument (follows_argument inside))) (λ x y same.
     follows_returns (unplaced_Object x.1 x.0 ∙ (ap (λ members. literal.Object members nowhere) same ∙ sym (unplaced_Object y.1 y.0))))))
 
 follows_arguments : (constant : Bool) (depth : ℕ) → Follows (Grammar.arguments constant depth) (Grammar.arguments constant depth) (By (map unplaced_argument))
 follows_arguments constant depth =
-    follows_listed unplaced_argument (follows_bind (follows_between 40 41 (follows_some unplaced_argument (follows_argument (follows_value constant depth)))) (λ x y same. follows_returns same))
+    follows_listed unplaced_argument (follows_bind (follows_between (codes "(") (codes ")") (follows_some unplaced_argument (follows_argument (follows_value constant depth)))) (λ x y same. follows_returns same))
 
 follows_directive : (constant : Bool) (depth : ℕ) → Follows (Grammar.directive constant depth) (Grammar.directive constant depth) (By unplaced_directive)
 follows_directive constant depth =
-    follows_bind (follows_mark 64) (λ a b _. follows_bind follows_name (λ t o same. follows_bind (follows_arguments constant depth) (λ xs ys given.
+    follows_bind (follows_punctuator (codes "@")) (λ a b _. follows_bind follows_name (λ t o same. follows_bind (follows_arguments constant depth) (λ xs ys given.
     follows_returns (λ i. record { name = same i; arguments = given i; spot = nowhere }))))
 
 follows_directives : (constant : Bool) (depth : ℕ) → Follows (Grammar.directives constant depth) (Grammar.directives constant depth) (By (map unplaced_directive))
@@ -143,7 +143,7 @@ SameType = By unplaced_type
 follows_maybe_non_null : (x y : TypeRef) → SameType x y → Follows (Grammar.maybe_non_null x) (Grammar.maybe_non_null y) SameType
 follows_maybe_non_null x y same =
     follows_either
-    (follows_bind (follows_mark 33) (λ a b _. follows_returns (unplaced_NonNull x ∙ (ap type.NonNull same ∙ sym (unplaced_NonNull y)))))
+    (follows_bind (follows_punctuator (codes "!")) (λ a b _. follows_returns (unplaced_NonNull x ∙ (ap type.NonNull same ∙ sym (unplaced_NonNull y)))))
     (follows_returns same)
 
 follows_named_type : Follows Grammar.named_type Grammar.named_type SameType
@@ -154,12 +154,12 @@ follows_type zero = follows_bind follows_named_type follows_maybe_non_null
 follows_type (suc depth) =
     let inside : Follows (Grammar.type_ref depth) (Grammar.type_ref depth) SameType = follows_type depth in
     follows_bind
-    (follows_either follows_named_type (follows_bind (follows_between 91 93 inside) (λ x y same.
+    (follows_either follows_named_type (follows_bind (follows_between (codes "[") (codes "]") inside) (λ x y same.
     follows_returns (unplaced_ListType x.1 ∙ (ap type.List same ∙ sym (unplaced_ListType y.1))))))
     follows_maybe_non_null
 
 follows_default : (depth : ℕ) → Follows (Grammar.default_value depth) (Grammar.default_value depth) SameValue
-follows_default depth = follows_bind (follows_mark 61) (λ a b _. follows_value true depth)
+follows_default depth = follows_bind (follows_punctuator (codes "=")) (λ a b _. follows_value true depth)
 
 default_same : (x y : Option Literal) → OptionSame SameValue x y → option_map unplaced_value x ≡ option_map unplaced_value y
 default_same None None h = refl
@@ -169,7 +169,7 @@ default_same (Some x) (Some y) h = ap Some h
 
 follows_variable_definition : (depth : ℕ) → Follows (Grammar.variable_definition depth) (Grammar.variable_definition depth) (By unplaced_variable)
 follows_variable_definition depth =
-    follows_bind (follows_mark 36) (λ a b _. follows_bind follows_name (λ t o same. follows_bind (follows_mark 58) (λ c d _.
+    follows_bind (follows_punctuator (codes "$")) (λ a b _. follows_bind follows_name (λ t o same. follows_bind (follows_punctuator (codes ":")) (λ c d _.
     follows_bind (follows_type depth) (λ k l kinds. follows_bind (follows_optional (follows_default depth)) (λ x y defaults.
     follows_bind (follows_directives true depth) (λ us vs used.
     let default : option_map unplaced_value x ≡ option_map unplaced_value y = default_same x y defaults in
@@ -177,12 +177,12 @@ follows_variable_definition depth =
 
 follows_variable_definitions : (depth : ℕ) → Follows (Grammar.variable_definitions depth) (Grammar.variable_definitions depth) (By (map unplaced_variable))
 follows_variable_definitions depth =
-    follows_listed unplaced_variable (follows_bind (follows_between 40 41 (follows_some unplaced_variable (follows_variable_definition depth))) (λ x y same. follows_returns same))
+    follows_listed unplaced_variable (follows_bind (follows_between (codes "(") (codes ")") (follows_some unplaced_variable (follows_variable_definition depth))) (λ x y same. follows_returns same))
 
 -- ---- selections
 
 follows_aliased : Follows Grammar.aliased Grammar.aliased SameText
-follows_aliased = follows_bind (follows_mark 58) (λ a b _. follows_name)
+follows_aliased = follows_bind (follows_punctuator (codes ":")) (λ a b _. follows_name)
 
 alias_same : (t o : Lexeme) (x y : Option Lexeme) → SameText t o → OptionSame SameText x y → Grammar.alias_by t x ≡ Grammar.alias_by o y
 alias_same t o None None same h = refl
@@ -245,13 +245,13 @@ follows_inline depth s r inner =
 follows_selection : (depth : ℕ) {p q : Phrase (List Selection)} → Follows p q SameSelections → Follows (Grammar.any_selection depth p) (Grammar.any_selection depth q) (By unplaced_selection)
 follows_selection depth inner =
     follows_either (follows_field depth inner)
-    (follows_bind (follows_mark 46) (λ a b _. follows_either (follows_spread depth) (follows_inline depth a.spot b.spot inner)))
+    (follows_bind (follows_punctuator (codes "...")) (λ a b _. follows_either (follows_spread depth) (follows_inline depth a.spot b.spot inner)))
 
 pub follows_selection_set : (depth : ℕ) → Follows (Grammar.selection_set depth) (Grammar.selection_set depth) (λ x y. SameSelections x.1 y.1)
 follows_selection_set zero = follows_never
 follows_selection_set (suc depth) =
     let set : Follows (Grammar.selection_set depth) (Grammar.selection_set depth) (λ x y. SameSelections x.1 y.1) = follows_selection_set depth in
-    follows_between 123 125 (follows_some unplaced_selection (follows_selection depth (follows_bind set (λ x y same. follows_returns same))))
+    follows_between (codes "{") (codes "}") (follows_some unplaced_selection (follows_selection depth (follows_bind set (λ x y same. follows_returns same))))
 
 follows_selections : (depth : ℕ) → Follows (Grammar.selections depth) (Grammar.selections depth) SameSelections
 follows_selections depth = follows_bind (follows_selection_set depth) (λ x y same. follows_returns same)

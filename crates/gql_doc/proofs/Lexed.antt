@@ -13,9 +13,6 @@ pub record Lexed (text : List ℕ) (lexer : Lexer) (items : List Token) : Type 0
   pub stands : Stands passed lexer
   pub others : (tokens : List Lexeme) (end : End) → Lexes passed (left lexer) tokens end → Lexes [] text (map lexeme items ++ tokens) end
 
-pub Lexed-none : (text : List ℕ) (lexer : Lexer) → Stands [] lexer → left lexer ≡ text → Lexed text lexer []
-Lexed-none text lexer stands is = record { passed = []; whole = is; stands = stands; others = λ tokens end h. subst (λ t. Lexes [] t tokens end) is h }
-
 -- one more is taken
 pub Lexed-more : (text : List ℕ) (old new : Lexer) (items more : List Token) (token : Token) → Lexed text old items
     → ((passed : List ℕ) → Stands passed old → told (Ok (Some token)) ≡ next_of passed (left old))

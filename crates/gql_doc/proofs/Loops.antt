@@ -2,7 +2,7 @@
 use Rattle.std.proofs.Common.{◌≡◌, ℕ, suc, ◌-◌, ◌+◌, ◌≤◌, ◌<◌, Bool, true, false, List, [], ◌∷◌, ◌++◌, length, Ok, Err, refl, sym, ap, ◌∙◌, append_assoc, arith}
 use Rattle.std.proofs.lemmas.List.{append-nil}
 use Rattle.gql_lex.specs.Tokens.{Lexeme}
-use Rattle.gql_doc.specs.Reading.{Reading, Reader, Fails, behind, next_is, many_at, is_any}
+use Rattle.gql_doc.specs.inner.Reading.{Reading, Reader, Fails, behind, next_is, many_at, is_any}
 use Rattle.gql_doc.specs.declared.parser.Stop.{Stop}
 use Rattle.gql_doc.specs.declared.parser.Stop.TheVariants as stop
 

@@ -10,16 +10,12 @@ use Rattle.gql_doc.specs.Nesting.{room_after, IsWithin, limit}
 use Rattle.gql_doc.specs.Answer.{Begins, IsFine, IsUnexpected, IsTooDeep, Is, Answers, most_bytes}
 use Rattle.gql_doc.specs.declared.refusal.ParseRefusal.{ParseRefusal}
 use Rattle.gql_doc.specs.declared.refusal.ParseRefusal.TheVariants as refusal
-use Rattle.gql_doc.specs.Reading as reading
+use Rattle.gql_doc.specs.inner.Reading as reading
 use Rattle.gql_doc.proofs.Predictive.{room_after-append, same_value}
 use Rattle.gql_doc.proofs.Parsed.{is_read}
 use Rattle.gql_model.specs.declared.syntax.Document.{Document}
 
 -- ---- fronts
-
--- `u` is a front of `v`
-abbrev IsFront : List Lexeme → List Lexeme → Type 0
-IsFront u v = (rest : List Lexeme) × (v ≡ u ++ rest)
 
 -- of two fronts of one list, either a token behind the one is within the other, or the other way round, or they are one
 record Longer (u : List Lexeme) (t : Lexeme) (v : List Lexeme) : Type 0 where

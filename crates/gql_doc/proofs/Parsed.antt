@@ -1,17 +1,17 @@
 -- From what the parser reads to what a text is.
-use Rattle.std.proofs.Common.{◌≡◌, ◌⊎◌, inl, inr, ℕ, suc, true, false, List, [], ◌∷◌, ◌++◌, map, Some, None, IsSome, Result, Ok, Err, refl, sym, ap, subst, ◌∙◌, append_assoc}
+use Rattle.std.proofs.Common.{codes, ◌≡◌, ◌⊎◌, inl, inr, ℕ, suc, true, false, List, [], ◌∷◌, ◌++◌, map, Some, None, IsSome, Result, Ok, Err, refl, sym, ap, subst, ◌∙◌, append_assoc}
 use Rattle.std.specs.Option.{option_and_then}
 use Rattle.std.proofs.lemmas.List.{append-nil}
 use Rattle.gql_lex.specs.Tokens.{Lexeme, lexeme, Lexes, Whole}
 use Rattle.gql_lex.proofs.Determined.{Lexes-determined}
 use Rattle.gql_doc.specs.Grammar.{IsDocument, document}
-use Rattle.gql_doc.specs.Marks.{is_opening}
+use Rattle.gql_doc.specs.Terminals.{is_opening}
 use Rattle.gql_doc.specs.Nesting.{room_behind, room_after, IsWithin, limit}
 use Rattle.gql_doc.specs.Answer.{Begins, IsFine, Comes, IsUnexpected, IsTooDeep, Is, Answers}
-use Rattle.gql_doc.specs.Reading.{Reading, next_is}
-use Rattle.gql_doc.specs.Reading as reading
-use Rattle.gql_doc.specs.TextEnds.{end_of, IsPlaced}
-use Rattle.gql_doc.specs.Outcomes.{outcome, found, next_spot, refusal_of}
+use Rattle.gql_doc.specs.inner.Reading.{Reading, next_is}
+use Rattle.gql_doc.specs.inner.Reading as reading
+use Rattle.gql_doc.specs.inner.TextEnds.{end_of, IsPlaced}
+use Rattle.gql_doc.specs.inner.Outcomes.{outcome, found, next_spot, refusal_of}
 use Rattle.gql_doc.specs.declared.parser.Stop.{Stop}
 use Rattle.gql_doc.specs.declared.parser.Stop.TheVariants as stop
 use Rattle.gql_lex.specs.declared.token.Token.{Token}
@@ -19,7 +19,7 @@ use Rattle.gql_doc.specs.declared.refusal.ParseRefusal.{ParseRefusal}
 use Rattle.gql_doc.specs.declared.refusal.ParseRefusal.TheVariants as refusal
 use Rattle.gql_doc.specs.declared.tokens.TextEnd.{TextEnd}
 use Rattle.gql_doc.specs.declared.tokens.TextEnd.TheVariants as end
-use Rattle.gql_doc.proofs.Sets.{union, marked, names, all_tokens}
+use Rattle.gql_doc.proofs.Sets.{union, this, names, all_tokens}
 use Rattle.gql_doc.proofs.Predictive.{Begun, Stopped, IsDeep, Reads, Predictive, room_both, same_why}
 use Rattle.gql_doc.proofs.Productions.{document-predictive, document_whole}
 use Rattle.gql_model.specs.declared.syntax.Document.{Document}
@@ -27,7 +27,7 @@ use Rattle.gql_model.specs.declared.syntax.Document.{Document}
 abbrev reads_document : List Lexeme → Reading Document
 reads_document tokens = reading.document limit tokens
 
-parses : (depth : ℕ) → Predictive limit limit (document (suc limit)) (document depth) (reading.document limit) (union (marked 123) names) all_tokens false
+parses : (depth : ℕ) → Predictive limit limit (document (suc limit)) (document depth) (reading.document limit) (union (this (codes "{")) names) all_tokens false
 parses depth = document-predictive limit depth
 
 begins_of : (tokens : List Lexeme) → Begun (document (suc limit)) tokens → Begins tokens

@@ -6,10 +6,10 @@ use Rattle.std.proofs.lemmas.List.{append-nil, append_cancel_right, length-appen
 use Rattle.gql_lex.specs.Tokens.{Lexeme}
 use Rattle.gql_doc.specs.Phrase.{Phrase, Splits, token, returns, either, never}
 use Rattle.gql_doc.specs.Phrase as phrase
-use Rattle.gql_doc.specs.Marks.{is_opening}
+use Rattle.gql_doc.specs.Terminals.{is_opening}
 use Rattle.gql_doc.specs.Nesting.{room_behind, room_after}
-use Rattle.gql_doc.specs.Reading.{Reading, Reader, behind, gives, next_is, take, pick, shut}
-use Rattle.gql_doc.specs.Reading as reading
+use Rattle.gql_doc.specs.inner.Reading.{Reading, Reader, behind, gives, next_is, take, pick, shut}
+use Rattle.gql_doc.specs.inner.Reading as reading
 use Rattle.gql_doc.specs.declared.parser.Stop.{Stop}
 use Rattle.gql_doc.specs.declared.parser.Stop.TheVariants as stop
 use Rattle.gql_doc.proofs.Sets.{Set, no_tokens, union, only_if, has, disjoint, disjoint-has, has-union, or_left, or_right}
@@ -636,18 +636,6 @@ many_more p tokens vs h =
       back_is = subst (λ w. phrase.many p w inner.0) (sym (append-nil inner.1.front) ∙ ap (λ w. inner.1.front ++ w) (sym inner.1.back_is.0) ∙ sym inner.1.whole) inner.1.front_is;
     })
 
-more_many : {A : Type 0} (p : Phrase A) (tokens : List Lexeme) (a : A) (vs : List A) → phrase.many p tokens (a ∷ vs) → phrase.◌>>=◌ p (more_of p) tokens (a ∷ vs)
-more_many p tokens a vs h = (
-  a,
-  record {
-    front = h.front;
-    back = h.back;
-    whole = h.whole;
-    front_is = h.front_is;
-    back_is = (vs, record { front = h.back; back = []; whole = sym (append-nil h.back); front_is = h.back_is; back_is = (refl, refl) });
-  },
-)
-
 many_none : {A : Type 0} (p : Phrase A) (tokens : List Lexeme) (vs : List A) → tokens ≡ [] → vs ≡ [] → phrase.many p tokens vs
 many_none p tokens vs e f = subst (phrase.many p tokens) (sym f) e
 
@@ -656,9 +644,6 @@ many_begun p = record { more = []; value = []; is = refl }
 
 more_begun : {A : Type 0} (p : Phrase A) (a : A) → Begun (more_of p a) []
 more_begun p a = begun_first [] (many_begun p) (λ vs. record { more = []; value = a ∷ vs; is = (refl, refl) })
-
-begun_more : {A : Type 0} (p : Phrase A) (tokens : List Lexeme) → Begun (phrase.◌>>=◌ p (more_of p)) tokens → Begun (phrase.many p) tokens
-begun_more p tokens b = record { more = b.more; value = b.value; is = many_more p (tokens ++ b.more) b.value b.is }
 
 gives_found : {A : Type 0} {n : ℕ} (a : A) (tokens rest : List Lexeme) (value : A) → gives a tokens ≡ Ok (value, rest) → Found n n (returns a) tokens value rest
 gives_found {n = n} a = (returns-predictive {room = n} a).found

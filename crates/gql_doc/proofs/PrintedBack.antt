@@ -1,12 +1,11 @@
 -- What is printed of a document reads back: its text is the same document up to places.
-use Rattle.std.proofs.Common.{◌≡◌, ℕ, Bool, true, false, inl, inr, List, [], ◌∷◌, map, refl, sym, ◌∙◌, ap, subst, IsUtf8}
-use Rattle.std.specs.Prelude.{◌==◌, IsSome}
-use Rattle.std.proofs.lemmas.Bool.{eqb-true}
+use Rattle.std.proofs.Common.{◌≡◌, ℕ, Bool, true, List, [], ◌∷◌, map, refl, sym, ◌∙◌, ap, subst, IsUtf8}
+use Rattle.std.specs.Prelude.{◌&&◌, IsSome}
+use Rattle.std.specs.Str.{bytes_eq}
 use Rattle.std.specs.List.{AllByRecursion as Each}
-use Rattle.gql_lex.specs.Classes.{is_mark as is_lex_mark}
 use Rattle.gql_lex.specs.Tokens.{Lexeme, Whole}
 use Rattle.gql_lex.proofs.Lexing.{IsRight, tokens-right}
-use Rattle.gql_lex.proofs.Texts.{IsTextOf, IsPunctuator}
+use Rattle.gql_lex.proofs.Texts.{IsTextOf}
 use Rattle.gql_doc.specs.Answer.{Is}
 use Rattle.gql_doc.proofs.QuotedFront.{quoted_reads_back}
 use Rattle.gql_doc.proofs.Pieces.{IsWritten}
@@ -16,39 +15,29 @@ use Rattle.gql_doc.proofs.Meant.{values-utf8}
 use Rattle.gql_lex.specs.declared.token.TokenKind.{TokenKind}
 use Rattle.gql_lex.specs.declared.token.TokenKind.TheVariants as kind
 use Rattle.gql_doc.specs.StringValue.{string_value}
-use Rattle.gql_doc.specs.Marks.{is_mark_of, is_name_kind, is_number_kind, is_string_kind}
+use Rattle.gql_doc.specs.Terminals.{is_punctuator_kind, is_name_kind, is_number_kind, is_string_kind}
 use Rattle.gql_doc.specs.Nesting.{limit, IsWithin}
 use Rattle.gql_doc.specs.Grammar.{IsDocument}
 use Rattle.gql_doc.specs.Grammar
 use Rattle.gql_doc.specs.Pieces.{Piece, piece}
-use Rattle.gql_doc.specs.Printed.{mark, dots, string, printed, print_text}
+use Rattle.gql_doc.specs.Printed.{string, printed, print_text}
 use Rattle.gql_doc.specs.Unplaced.{unplaced}
 use Rattle.gql_doc.proofs.Follows.{Alike, AreAlike, room_alike}
 use Rattle.gql_doc.proofs.FollowsGrammar.{follows_document}
-use Rattle.gql_doc.proofs.Prints.{reprint, reprint_of, mark_piece}
+use Rattle.gql_doc.proofs.Prints.{reprint, reprint_of}
 use Rattle.gql_doc.proofs.Shorter.{ReadsBack, EachReadsBack, Shorter, shorter_document}
 use Rattle.gql_model.specs.declared.syntax.Document.{Document}
 
 -- a token is printed as one that passes the same tests
-marks_reprint : (k : TokenKind) (text : List ℕ) (byte : ℕ) → is_mark_of (reprint_of k text).kind (reprint_of k text).text byte ≡ is_mark_of k text byte
-marks_reprint kind.Punctuator [] byte = refl
-marks_reprint kind.Punctuator (first ∷ rest) byte = by (first == 46) refl
-  where
-    by : (b : Bool) → (first == 46) ≡ b → is_mark_of (mark_piece first).kind (mark_piece first).text byte ≡ (first == byte)
-    by true e = let is = eqb-true first 46 e in rw is refl
-    by false e = rw e refl
-marks_reprint kind.Name text byte = refl
-marks_reprint kind.Int text byte = refl
-marks_reprint kind.Quoted text byte = refl
-marks_reprint kind.Block text byte = refl
+punctuators_reprint : (k : TokenKind) (own text : List ℕ) → (is_punctuator_kind (reprint_of k own).kind && bytes_eq (reprint_of k own).text text) ≡ (is_punctuator_kind k && bytes_eq own text)
+punctuators_reprint kind.Punctuator own text = refl
+punctuators_reprint kind.Name own text = refl
+punctuators_reprint kind.Int own text = refl
+punctuators_reprint kind.Quoted own text = refl
+punctuators_reprint kind.Block own text = refl
 
 kind_reprint : (test : TokenKind → Bool) (k : TokenKind) (text : List ℕ) → (test kind.Block ≡ test kind.Quoted) → test (reprint_of k text).kind ≡ test k
-kind_reprint test kind.Punctuator [] strings = refl
-kind_reprint test kind.Punctuator (first ∷ rest) strings = by (first == 46) refl
-  where
-    by : (b : Bool) → (first == 46) ≡ b → test (mark_piece first).kind ≡ test kind.Punctuator
-    by true e = rw e refl
-    by false e = rw e refl
+kind_reprint test kind.Punctuator text strings = refl
 kind_reprint test kind.Name text strings = refl
 kind_reprint test kind.Int text strings = refl
 kind_reprint test kind.Quoted text strings = refl
@@ -78,7 +67,7 @@ string_reprint kind.Punctuator text h = absurd (cc)
 -- a token that is like another one, as it is printed
 alike_printed : (t o : Lexeme) → piece o ≡ reprint t → ReadsBack t → Alike t o
 alike_printed t o same reads = record {
-  marks = λ byte. ap (λ (p : Piece). is_mark_of p.kind p.text byte) same ∙ marks_reprint t.kind t.text byte;
+  punctuators = λ text. ap (λ (p : Piece). is_punctuator_kind p.kind && bytes_eq p.text text) same ∙ punctuators_reprint t.kind t.text text;
   names = ap (λ (p : Piece). is_name_kind p.kind) same ∙ kind_reprint is_name_kind t.kind t.text refl;
   numbers = ap (λ (p : Piece). is_number_kind p.kind) same ∙ kind_reprint is_number_kind t.kind t.text refl;
   strings = ap (λ (p : Piece). is_string_kind p.kind) same ∙ kind_reprint is_string_kind t.kind t.text refl;
@@ -98,21 +87,8 @@ alike_all (t ∷ ts) (o ∷ os) same reads =
 
 -- ---- what is written
 
-mark_by : (byte : ℕ) (b : Bool) → (byte == 46) ≡ b → IsPunctuator (byte ∷ []) → IsWritten (mark_piece byte)
-mark_by byte true e is = subst IsWritten (let one : dots ≡ mark_piece byte = rw e refl in one) (inr refl)
-mark_by byte false e is = subst IsWritten (let one : mark byte ≡ mark_piece byte = rw e refl in one) is
-
-dots_by : (byte : ℕ) → byte ≡ 46 → IsWritten (mark_piece byte)
-dots_by byte e = subst (λ b. IsWritten (mark_piece b)) (sym e) (inr refl)
-
 written_reprint : (k : TokenKind) (text : List ℕ) → IsTextOf k text → IsUtf8 (string_value k text) → IsWritten (reprint_of k text)
-written_reprint kind.Punctuator [] (inl is) utf8 = let no = is.2 in absurd (cc)
-written_reprint kind.Punctuator [] (inr is) utf8 = absurd (cc)
-written_reprint kind.Punctuator (byte ∷ rest) (inl is) utf8 =
-    let text = is.2 in
-    let same : is.0 ≡ byte = cc in
-    mark_by byte (byte == 46) refl (inl (byte, ap is_lex_mark (sym same) ∙ is.1, refl))
-written_reprint kind.Punctuator (byte ∷ rest) (inr is) utf8 = let same : byte ≡ 46 = cc in dots_by byte same
+written_reprint kind.Punctuator text is utf8 = is
 written_reprint kind.Name text is utf8 = is
 written_reprint kind.Int text is utf8 = is
 written_reprint kind.Quoted text is utf8 = string-written (string_value kind.Quoted text) utf8

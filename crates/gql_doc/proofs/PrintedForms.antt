@@ -23,7 +23,7 @@ use Rattle.gql_model.specs.declared.syntax.Selection.TheFolds.{fold-roll-Selecti
 use Rattle.gql_model.specs.declared.syntax.Selection.TheVariants.{rolls-Field, rolls-Spread, rolls-Inline}
 use Rattle.gql_model.specs.declared.syntax.Selection.TheVariants as selection
 use Rattle.gql_doc.specs.Pieces.{Piece}
-use Rattle.gql_doc.specs.Printed.{mark, dots, word, number, string, enclosed, joined, truth_word, value_level, argument_level, printed_value, printed_argument, printed_list, printed_arguments, printed_directives, type_level, printed_type, printed_alias, field_level, printed_spread, printed_condition, inline_level, selection_level, printed_selection, printed_field, printed_inline, printed_selections}
+use Rattle.gql_doc.specs.Printed.{punctuator, word, number, string, enclosed, joined, truth_word, value_level, argument_level, printed_value, printed_argument, printed_list, printed_arguments, printed_directives, type_level, printed_type, printed_alias, field_level, printed_spread, printed_condition, inline_level, selection_level, printed_selection, printed_field, printed_inline, printed_selections}
 
 abbrev Pieces : Type 0
 Pieces = List Piece
@@ -31,13 +31,13 @@ Pieces = List Piece
 -- ---- lists
 
 -- a list that is printed already
-printed_list-map : {A : Type 0} (f : A → Pieces) (opening : ℕ) (xs : List A) (closing : ℕ) → printed_list (λ pieces. pieces) opening (map f xs) closing ≡ printed_list f opening xs closing
+printed_list-map : {A : Type 0} (f : A → Pieces) (opening : List ℕ) (xs : List A) (closing : List ℕ) → printed_list (λ pieces. pieces) opening (map f xs) closing ≡ printed_list f opening xs closing
 printed_list-map f opening [] closing = refl
 printed_list-map f opening (x ∷ xs) closing = ap (λ inside. enclosed opening inside closing) (flat_map-map (λ (pieces : Pieces). pieces) f (x ∷ xs))
 
 -- ---- values
 
-pub printed_Variable : (name : List ℕ) (spot : Spot) → printed_value (literal.Variable name spot) ≡ mark 36 ∷ word name ∷ []
+pub printed_Variable : (name : List ℕ) (spot : Spot) → printed_value (literal.Variable name spot) ≡ punctuator (codes "$") ∷ word name ∷ []
 printed_Variable name spot = ap printed_value (sym (rolls-Variable name spot)) ∙ fold-roll-Literal Pieces Pieces value_level argument_level (Literal-F.Variable name spot)
 
 pub printed_Int : (digits : List ℕ) (spot : Spot) → printed_value (literal.Int digits spot) ≡ number digits ∷ []
@@ -55,22 +55,22 @@ printed_Null spot = ap printed_value (sym (rolls-Null spot)) ∙ fold-roll-Liter
 pub printed_Enum : (name : List ℕ) (spot : Spot) → printed_value (literal.Enum name spot) ≡ word name ∷ []
 printed_Enum name spot = ap printed_value (sym (rolls-Enum name spot)) ∙ fold-roll-Literal Pieces Pieces value_level argument_level (Literal-F.Enum name spot)
 
-pub printed_List : (items : List Literal) (spot : Spot) → printed_value (literal.List items spot) ≡ enclosed 91 (flat_map printed_value items) 93
+pub printed_List : (items : List Literal) (spot : Spot) → printed_value (literal.List items spot) ≡ enclosed (codes "[") (flat_map printed_value items) (codes "]")
 printed_List items spot =
     ap printed_value (sym (rolls-List items spot))
     ∙ (fold-roll-Literal Pieces Pieces value_level argument_level (Literal-F.List items spot)
-    ∙ ap (λ inside. enclosed 91 inside 93) (flat_map-map (λ (pieces : Pieces). pieces) printed_value items))
+    ∙ ap (λ inside. enclosed (codes "[") inside (codes "]")) (flat_map-map (λ (pieces : Pieces). pieces) printed_value items))
 
-pub printed_Object : (members : List Argument) (spot : Spot) → printed_value (literal.Object members spot) ≡ enclosed 123 (flat_map printed_argument members) 125
+pub printed_Object : (members : List Argument) (spot : Spot) → printed_value (literal.Object members spot) ≡ enclosed (codes "{") (flat_map printed_argument members) (codes "}")
 printed_Object members spot =
     ap printed_value (sym (rolls-Object members spot))
     ∙ (fold-roll-Literal Pieces Pieces value_level argument_level (Literal-F.Object members spot)
-    ∙ ap (λ inside. enclosed 123 inside 125) (flat_map-map (λ (pieces : Pieces). pieces) printed_argument members))
+    ∙ ap (λ inside. enclosed (codes "{") inside (codes "}")) (flat_map-map (λ (pieces : Pieces). pieces) printed_argument members))
 
-pub argument-out : (it : Argument) → printed_argument it ≡ word (out-Argument it).name ∷ mark 58 ∷ printed_value (out-Argument it).value
+pub argument-out : (it : Argument) → printed_argument it ≡ word (out-Argument it).name ∷ punctuator (codes ":") ∷ printed_value (out-Argument it).value
 argument-out it = fold_out-Argument Pieces Pieces value_level argument_level it
 
-pub argument-roll : (it : Argument-F Literal Argument) → printed_argument (roll-Argument it) ≡ word it.name ∷ mark 58 ∷ printed_value it.value
+pub argument-roll : (it : Argument-F Literal Argument) → printed_argument (roll-Argument it) ≡ word it.name ∷ punctuator (codes ":") ∷ printed_value it.value
 argument-roll it = fold-roll-Argument Pieces Pieces value_level argument_level it
 
 -- ---- types
@@ -78,10 +78,10 @@ argument-roll it = fold-roll-Argument Pieces Pieces value_level argument_level i
 pub printed_Named : (name : List ℕ) (spot : Spot) → printed_type (type.Named name spot) ≡ word name ∷ []
 printed_Named name spot = ap printed_type (sym (rolls-Named name spot)) ∙ fold-roll-TypeRef Pieces type_level (TypeRef-F.Named name spot)
 
-pub printed_ListType : (item : TypeRef) → printed_type (type.List item) ≡ enclosed 91 (printed_type item) 93
+pub printed_ListType : (item : TypeRef) → printed_type (type.List item) ≡ enclosed (codes "[") (printed_type item) (codes "]")
 printed_ListType item = ap printed_type (sym (rolls-ListType item)) ∙ fold-roll-TypeRef Pieces type_level (TypeRef-F.List item)
 
-pub printed_NonNull : (inner : TypeRef) → printed_type (type.NonNull inner) ≡ printed_type inner ++ mark 33 ∷ []
+pub printed_NonNull : (inner : TypeRef) → printed_type (type.NonNull inner) ≡ printed_type inner ++ punctuator (codes "!") ∷ []
 printed_NonNull inner = ap printed_type (sym (rolls-NonNull inner)) ∙ fold-roll-TypeRef Pieces type_level (TypeRef-F.NonNull inner)
 
 -- ---- selections
@@ -97,10 +97,10 @@ printed_Inline fragment = ap printed_selection (sym (rolls-Inline fragment)) ∙
 
 -- a field by its parts
 abbrev pub field_by : FieldNode-F Selection FieldNode InlineNode → Pieces
-field_by it = printed_alias it.alias ++ (word it.name ∷ (printed_arguments it.arguments ++ (printed_directives it.directives ++ printed_list printed_selection 123 it.selections 125)))
+field_by it = printed_alias it.alias ++ (word it.name ∷ (printed_arguments it.arguments ++ (printed_directives it.directives ++ printed_list printed_selection (codes "{") it.selections (codes "}"))))
 
-field_level-map : (it : FieldNode-F Selection FieldNode InlineNode) → printed_alias it.alias ++ (word it.name ∷ (printed_arguments it.arguments ++ (printed_directives it.directives ++ printed_list (λ (pieces : Pieces). pieces) 123 (map printed_selection it.selections) 125))) ≡ field_by it
-field_level-map it = ap (λ set. printed_alias it.alias ++ (word it.name ∷ (printed_arguments it.arguments ++ (printed_directives it.directives ++ set)))) (printed_list-map printed_selection 123 it.selections 125)
+field_level-map : (it : FieldNode-F Selection FieldNode InlineNode) → printed_alias it.alias ++ (word it.name ∷ (printed_arguments it.arguments ++ (printed_directives it.directives ++ printed_list (λ (pieces : Pieces). pieces) (codes "{") (map printed_selection it.selections) (codes "}")))) ≡ field_by it
+field_level-map it = ap (λ set. printed_alias it.alias ++ (word it.name ∷ (printed_arguments it.arguments ++ (printed_directives it.directives ++ set)))) (printed_list-map printed_selection (codes "{") it.selections (codes "}"))
 
 pub field-out : (it : FieldNode) → printed_field it ≡ field_by (out-FieldNode it)
 field-out it = fold_out-FieldNode Pieces Pieces Pieces selection_level field_level inline_level it ∙ field_level-map (out-FieldNode it)
@@ -110,10 +110,10 @@ field-roll it = fold-roll-FieldNode Pieces Pieces Pieces selection_level field_l
 
 -- an inline fragment by its parts
 abbrev pub inline_by : InlineNode-F Selection FieldNode InlineNode → Pieces
-inline_by it = dots ∷ (printed_condition it.condition ++ (printed_directives it.directives ++ printed_selections it.selections))
+inline_by it = punctuator (codes "...") ∷ (printed_condition it.condition ++ (printed_directives it.directives ++ printed_selections it.selections))
 
-inline_level-map : (it : InlineNode-F Selection FieldNode InlineNode) → dots ∷ (printed_condition it.condition ++ (printed_directives it.directives ++ enclosed 123 (joined (map printed_selection it.selections)) 125)) ≡ inline_by it
-inline_level-map it = ap (λ inside. dots ∷ (printed_condition it.condition ++ (printed_directives it.directives ++ enclosed 123 inside 125))) (flat_map-map (λ (pieces : Pieces). pieces) printed_selection it.selections)
+inline_level-map : (it : InlineNode-F Selection FieldNode InlineNode) → punctuator (codes "...") ∷ (printed_condition it.condition ++ (printed_directives it.directives ++ enclosed (codes "{") (joined (map printed_selection it.selections)) (codes "}"))) ≡ inline_by it
+inline_level-map it = ap (λ inside. punctuator (codes "...") ∷ (printed_condition it.condition ++ (printed_directives it.directives ++ enclosed (codes "{") inside (codes "}")))) (flat_map-map (λ (pieces : Pieces). pieces) printed_selection it.selections)
 
 pub inline-out : (it : InlineNode) → printed_inline it ≡ inline_by (out-InlineNode it)
 inline-out it = fold_out-InlineNode Pieces Pieces Pieces selection_level field_level inline_level it ∙ inline_level-map (out-InlineNode it)

@@ -1,6 +1,5 @@
 -- What is printed of a phrase's value is its tokens, each as it is printed.
 use Rattle.std.proofs.Common.{◌≡◌, ℕ, inl, inr, Bool, true, List, [], ◌∷◌, ◌++◌, map, flat_map, Option, Some, None, refl, sym, ◌∙◌, ap, append_assoc}
-use Rattle.std.specs.Prelude.{◌==◌, if◌then◌else◌}
 use Rattle.std.proofs.lemmas.List.{append-nil, map-append}
 use Rattle.gql_lex.specs.Tokens.{Lexeme}
 use Rattle.gql_doc.specs.StringValue.{string_value}
@@ -8,16 +7,11 @@ use Rattle.gql_doc.specs.Phrase.{Phrase, token, returns, ◌>>=◌, either, neve
 use Rattle.gql_lex.specs.declared.token.TokenKind.{TokenKind}
 use Rattle.gql_lex.specs.declared.token.TokenKind.TheVariants as kind
 use Rattle.gql_doc.specs.Pieces.{Piece}
-use Rattle.gql_doc.specs.Printed.{mark, dots, word, number, string, printed_list}
-
--- how a punctuator is printed that begins with this byte
-abbrev pub mark_piece : ℕ → Piece
-mark_piece byte = if byte == 46 then dots else mark byte
+use Rattle.gql_doc.specs.Printed.{punctuator, word, number, string, printed_list}
 
 -- how a token is printed
 abbrev pub reprint_of : TokenKind → List ℕ → Piece
-reprint_of kind.Punctuator [] = record { kind = kind.Punctuator; text = [] }
-reprint_of kind.Punctuator (byte ∷ rest) = mark_piece byte
+reprint_of kind.Punctuator text = punctuator text
 reprint_of kind.Name text = word text
 reprint_of kind.Int text = number text
 reprint_of kind.Quoted text = string (string_value kind.Quoted text)
@@ -81,5 +75,5 @@ pub prints_optional : {A : Type 0} {p : Phrase A} {f : A → List Piece} → Pri
 prints_optional first = prints_either (prints_bind first (λ a. prints_returns refl)) (prints_returns refl)
 
 -- a list of which something is printed, or none
-pub prints_listed : {A : Type 0} {p : Phrase (List A)} (f : A → List Piece) (opening closing : ℕ) → Prints [] p (λ xs. printed_list f opening xs closing) → Prints [] (listed p) (λ xs. printed_list f opening xs closing)
+pub prints_listed : {A : Type 0} {p : Phrase (List A)} (f : A → List Piece) (opening closing : List ℕ) → Prints [] p (λ xs. printed_list f opening xs closing) → Prints [] (listed p) (λ xs. printed_list f opening xs closing)
 prints_listed f opening closing first = prints_either first (prints_returns refl)

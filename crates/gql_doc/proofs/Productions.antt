@@ -1,6 +1,5 @@
 -- The parser's readers read the productions of the grammar, and stop where no document goes on.
 use Rattle.std.proofs.Common.{◌≡◌, inl, inr, ℕ, zero, suc, Bool, true, false, ◌||◌, ◌&&◌, not, List, [], ◌∷◌, ◌++◌, Option, Some, None, length, Ok, Err, refl, sym, ap, subst, ◌∙◌, codes, arith}
-use Rattle.std.proofs.lemmas.Bool.{eq-eqb}
 use Rattle.std.specs.Str.{bytes_eq}
 use Rattle.std.proofs.lemmas.Slice.Eq.{bytes_eq-Decides}
 use Rattle.gql_tree.specs.declared.delivery.Spot.{Spot}
@@ -10,13 +9,13 @@ use Rattle.gql_lex.specs.declared.token.TokenKind.TheVariants as kind
 use Rattle.gql_doc.specs.Phrase.{Phrase, token, returns, either, never}
 use Rattle.gql_doc.specs.Phrase as phrase
 use Rattle.gql_doc.specs.Grammar as grammar
-use Rattle.gql_doc.specs.Reading.{Reader, gives, next_is, take, pick, shut}
-use Rattle.gql_doc.specs.Reading as reading
+use Rattle.gql_doc.specs.inner.Reading.{Reader, gives, next_is, take, pick, shut}
+use Rattle.gql_doc.specs.inner.Reading as reading
 use Rattle.gql_doc.specs.StringValue.{string_value}
-use Rattle.gql_doc.specs.Marks.{is_mark, is_name, is_number, is_string, is_word, is_fragment_name, is_operation_type, is_opening, is_closing}
+use Rattle.gql_doc.specs.Terminals.{is_punctuator, is_name, is_number, is_string, is_word, is_fragment_name, is_operation_type, is_opening, is_closing}
 use Rattle.gql_doc.specs.Nesting.{room_behind}
 use Rattle.gql_doc.specs.declared.parser.Stop.TheVariants as stop
-use Rattle.gql_doc.proofs.Sets.{Set, no_tokens, marked, names, numbers, strings, all_tokens, union, only_if, has, disjoint, disjoint-has, has-union, or_left, or_right, is_mark-has, is_name-has, is_number-has, is_string-has}
+use Rattle.gql_doc.proofs.Sets.{Set, no_tokens, this, names, numbers, strings, all_tokens, union, only_if, has, disjoint, disjoint-has, has-union, or_left, or_right, is_punctuator-has, is_name-has, is_number-has, is_string-has}
 use Rattle.gql_doc.proofs.Predictive.{Begun, Predictive, returns-predictive, token-predictive, bind-predictive, bind_apart-predictive, pick-predictive, pick_first-predictive, other-predictive, shut-predictive, many-predictive, some-predictive, forbid-predictive, many_ends, false_true, pick_yes, pick_no, same_rest}
 use Rattle.gql_model.specs.declared.syntax.Literal.{Literal}
 use Rattle.gql_model.specs.declared.syntax.Literal.TheVariants as literal
@@ -37,62 +36,62 @@ a_token : TokenKind → List ℕ → Lexeme
 a_token k text = record { kind = k; text = text; start = 0; spot = record { line = 0; column = 0 } }
 
 opening : Set
-opening = union (marked 91) (marked 123)
+opening = union (this (codes "[")) (this (codes "{"))
 
 closing : Set
-closing = union (marked 93) (marked 125)
+closing = union (this (codes "]")) (this (codes "}"))
 
-two_marks : (a b : ℕ) (t : Lexeme) → (is_mark a t || is_mark b t) ≡ has (union (marked a) (marked b)) t
-two_marks a b t = (λ i. is_mark-has a t i || is_mark-has b t i) ∙ sym (has-union (marked a) (marked b) t)
+two_punctuators : (a b : List ℕ) (t : Lexeme) → (is_punctuator a t || is_punctuator b t) ≡ has (union (this a) (this b)) t
+two_punctuators a b t = (λ i. is_punctuator-has a t i || is_punctuator-has b t i) ∙ sym (has-union (this a) (this b) t)
 
 behind_plain : (n : ℕ) (t : Lexeme) (a b : Bool) → is_opening t ≡ a → is_closing t ≡ b → a ≡ false → b ≡ false → room_behind n t ≡ Some n
 behind_plain n t a b opens closes e f = rw (opens, closes, e, f) refl
 
 -- tokens of a set with no braces and brackets leave the room as it is
-level_plain : (F : Set) (n : ℕ) → disjoint F (union (marked 91) (marked 123)) ≡ true → disjoint F (union (marked 93) (marked 125)) ≡ true → (t : Lexeme) → has F t ≡ true → room_behind n t ≡ Some n
+level_plain : (F : Set) (n : ℕ) → disjoint F (union (this (codes "[")) (this (codes "{"))) ≡ true → disjoint F (union (this (codes "]")) (this (codes "}"))) ≡ true → (t : Lexeme) → has F t ≡ true → room_behind n t ≡ Some n
 level_plain F n one two t h = behind_plain n t _ _ refl refl
-    (two_marks 91 123 t ∙ disjoint-has F (union (marked 91) (marked 123)) t one h)
-    (two_marks 93 125 t ∙ disjoint-has F (union (marked 93) (marked 125)) t two h)
+    (two_punctuators (codes "[") (codes "{") t ∙ disjoint-has F (union (this (codes "[")) (this (codes "{"))) t one h)
+    (two_punctuators (codes "]") (codes "}") t ∙ disjoint-has F (union (this (codes "]")) (this (codes "}"))) t two h)
 
 level_opens : (n : ℕ) (t : Lexeme) → is_opening t ≡ true → room_behind (suc n) t ≡ Some n
 level_opens n t e = rw e refl
 
-level_closes : (F : Set) (n : ℕ) → disjoint F (union (marked 91) (marked 123)) ≡ true → (t : Lexeme) → has F t ≡ true → is_closing t ≡ true → room_behind n t ≡ Some (suc n)
+level_closes : (F : Set) (n : ℕ) → disjoint F (union (this (codes "[")) (this (codes "{"))) ≡ true → (t : Lexeme) → has F t ≡ true → is_closing t ≡ true → room_behind n t ≡ Some (suc n)
 level_closes F n one t h e =
-    let no = two_marks 91 123 t ∙ disjoint-has F (union (marked 91) (marked 123)) t one h in
+    let no = two_punctuators (codes "[") (codes "{") t ∙ disjoint-has F (union (this (codes "[")) (this (codes "{"))) t one h in
     rw (no, e) refl
 
-mark_example : (byte : ℕ) → is_mark byte (a_token kind.Punctuator (byte ∷ [])) ≡ true
+punctuator_example : (text : List ℕ) → is_punctuator text (a_token kind.Punctuator text) ≡ true
 unfolding a_token
-mark_example byte = eq-eqb byte byte refl
+punctuator_example text = (bytes_eq-Decides text text).1 refl
 
 -- a punctuator that is no brace or bracket
-mark-predictive : {n : ℕ} (byte : ℕ) → disjoint (marked byte) (union (marked 91) (marked 123)) ≡ true → disjoint (marked byte) (union (marked 93) (marked 125)) ≡ true
-    → Predictive n n (grammar.mark byte) (grammar.mark byte) (reading.mark byte) (marked byte) no_tokens false
-mark-predictive {n = n} byte one two = token-predictive (is_mark byte) (marked byte) (a_token kind.Punctuator (byte ∷ [])) (mark_example byte)
-    (λ t h. sym (is_mark-has byte t) ∙ h) (λ t h. level_plain (marked byte) n one two t (sym (is_mark-has byte t) ∙ h))
+punctuator-predictive : {n : ℕ} (text : List ℕ) → disjoint (this text) (union (this (codes "[")) (this (codes "{"))) ≡ true → disjoint (this text) (union (this (codes "]")) (this (codes "}"))) ≡ true
+    → Predictive n n (grammar.punctuator text) (grammar.punctuator text) (reading.punctuator text) (this text) no_tokens false
+punctuator-predictive {n = n} text one two = token-predictive (is_punctuator text) (this text) (a_token kind.Punctuator text) (punctuator_example text)
+    (λ t h. sym (is_punctuator-has text t) ∙ h) (λ t h. level_plain (this text) n one two t (sym (is_punctuator-has text t) ∙ h))
 
-opens-predictive : {n : ℕ} (byte : ℕ) → ((t : Lexeme) → is_mark byte t ≡ true → is_opening t ≡ true)
-    → Predictive (suc n) n (grammar.mark byte) (grammar.mark byte) (reading.mark byte) (marked byte) no_tokens false
-opens-predictive {n = n} byte opens = token-predictive (is_mark byte) (marked byte) (a_token kind.Punctuator (byte ∷ [])) (mark_example byte)
-    (λ t h. sym (is_mark-has byte t) ∙ h) (λ t h. level_opens n t (opens t h))
+opens-predictive : {n : ℕ} (text : List ℕ) → ((t : Lexeme) → is_punctuator text t ≡ true → is_opening t ≡ true)
+    → Predictive (suc n) n (grammar.punctuator text) (grammar.punctuator text) (reading.punctuator text) (this text) no_tokens false
+opens-predictive {n = n} text opens = token-predictive (is_punctuator text) (this text) (a_token kind.Punctuator text) (punctuator_example text)
+    (λ t h. sym (is_punctuator-has text t) ∙ h) (λ t h. level_opens n t (opens t h))
 
-closes-predictive : {n : ℕ} (byte : ℕ) → disjoint (marked byte) (union (marked 91) (marked 123)) ≡ true → ((t : Lexeme) → is_mark byte t ≡ true → is_closing t ≡ true)
-    → Predictive n (suc n) (grammar.mark byte) (grammar.mark byte) (reading.mark byte) (marked byte) no_tokens false
-closes-predictive {n = n} byte one closes = token-predictive (is_mark byte) (marked byte) (a_token kind.Punctuator (byte ∷ [])) (mark_example byte)
-    (λ t h. sym (is_mark-has byte t) ∙ h) (λ t h. level_closes (marked byte) n one t (sym (is_mark-has byte t) ∙ h) (closes t h))
+closes-predictive : {n : ℕ} (text : List ℕ) → disjoint (this text) (union (this (codes "[")) (this (codes "{"))) ≡ true → ((t : Lexeme) → is_punctuator text t ≡ true → is_closing t ≡ true)
+    → Predictive n (suc n) (grammar.punctuator text) (grammar.punctuator text) (reading.punctuator text) (this text) no_tokens false
+closes-predictive {n = n} text one closes = token-predictive (is_punctuator text) (this text) (a_token kind.Punctuator text) (punctuator_example text)
+    (λ t h. sym (is_punctuator-has text t) ∙ h) (λ t h. level_closes (this text) n one t (sym (is_punctuator-has text t) ∙ h) (closes t h))
 
-bracket_opens : (t : Lexeme) → is_mark 91 t ≡ true → is_opening t ≡ true
-bracket_opens t h = or_left (is_mark 91 t) (is_mark 123 t) h
+bracket_opens : (t : Lexeme) → is_punctuator (codes "[") t ≡ true → is_opening t ≡ true
+bracket_opens t h = or_left (is_punctuator (codes "[") t) (is_punctuator (codes "{") t) h
 
-brace_opens : (t : Lexeme) → is_mark 123 t ≡ true → is_opening t ≡ true
-brace_opens t h = or_right (is_mark 91 t) (is_mark 123 t) h
+brace_opens : (t : Lexeme) → is_punctuator (codes "{") t ≡ true → is_opening t ≡ true
+brace_opens t h = or_right (is_punctuator (codes "[") t) (is_punctuator (codes "{") t) h
 
-bracket_closes : (t : Lexeme) → is_mark 93 t ≡ true → is_closing t ≡ true
-bracket_closes t h = or_left (is_mark 93 t) (is_mark 125 t) h
+bracket_closes : (t : Lexeme) → is_punctuator (codes "]") t ≡ true → is_closing t ≡ true
+bracket_closes t h = or_left (is_punctuator (codes "]") t) (is_punctuator (codes "}") t) h
 
-brace_closes : (t : Lexeme) → is_mark 125 t ≡ true → is_closing t ≡ true
-brace_closes t h = or_right (is_mark 93 t) (is_mark 125 t) h
+brace_closes : (t : Lexeme) → is_punctuator (codes "}") t ≡ true → is_closing t ≡ true
+brace_closes t h = or_right (is_punctuator (codes "]") t) (is_punctuator (codes "}") t) h
 
 name-predictive : {n : ℕ} → Predictive n n grammar.name grammar.name reading.name names no_tokens false
 unfolding a_token
@@ -119,14 +118,14 @@ type_is_name t h = by (is_name t) refl h
     by true e h = e
     by false e h = let no : is_operation_type t ≡ false = rw e refl in let both = sym no ∙ h in absurd cc
 
--- ---- what stands between two marks
+-- ---- what stands between two punctuators
 
-between-predictive : {A : Type 0} {a b c d : ℕ} {p q : Phrase A} {r : Reader A} {F N : Set} (e : Bool) (first last : ℕ)
-    → Predictive a b (grammar.mark first) (grammar.mark first) (reading.mark first) (marked first) no_tokens false
+between-predictive : {A : Type 0} {a b c d : ℕ} {p q : Phrase A} {r : Reader A} {F N : Set} (e : Bool) (first last : List ℕ)
+    → Predictive a b (grammar.punctuator first) (grammar.punctuator first) (reading.punctuator first) (this first) no_tokens false
     → Predictive b c p q r F N e
-    → Predictive c d (grammar.mark last) (grammar.mark last) (reading.mark last) (marked last) no_tokens false
-    → disjoint (marked last) N ≡ true → disjoint (union F (only_if e (marked last))) no_tokens ≡ true
-    → Predictive a d (grammar.between first p last) (grammar.between first q last) (reading.between first r last) (marked first) no_tokens false
+    → Predictive c d (grammar.punctuator last) (grammar.punctuator last) (reading.punctuator last) (this last) no_tokens false
+    → disjoint (this last) N ≡ true → disjoint (union F (only_if e (this last))) no_tokens ≡ true
+    → Predictive a d (grammar.between first p last) (grammar.between first q last) (reading.between first r last) (this first) no_tokens false
 between-predictive true first last one inside two apart fresh =
     bind-predictive one (λ first. bind-predictive inside (λ value. bind-predictive two (λ _. returns-predictive (first.spot, value)) refl) apart) fresh
 between-predictive false first last one inside two apart fresh =
@@ -135,8 +134,8 @@ between-predictive false first last one inside two apart fresh =
 -- ---- values
 
 abbrev value_first : Bool → Set
-value_first true = union numbers (union strings (union names (union (marked 91) (marked 123))))
-value_first false = union (marked 36) (union numbers (union strings (union names (union (marked 91) (marked 123)))))
+value_first true = union numbers (union strings (union names (union (this (codes "[")) (this (codes "{")))))
+value_first false = union (this (codes "$")) (union numbers (union strings (union names (union (this (codes "[")) (this (codes "{"))))))
 
 number-predictive : {n : ℕ} → Predictive n n (token is_number) (token is_number) (take is_number) numbers no_tokens false
 unfolding a_token
@@ -146,8 +145,8 @@ string-predictive : {n : ℕ} → Predictive n n (token is_string) (token is_str
 unfolding a_token
 string-predictive {n = n} = token-predictive is_string strings (a_token kind.Quoted (codes "")) refl (λ t h. sym (is_string-has t) ∙ h) (λ t h. level_plain strings n refl refl t (sym (is_string-has t) ∙ h))
 
-variable-predictive : {n : ℕ} → Predictive n n (grammar.variable false) (grammar.variable false) (reading.variable false) (marked 36) no_tokens false
-variable-predictive = bind-predictive (mark-predictive 36 refl refl) (λ dollar. bind-predictive name-predictive (λ word. returns-predictive (literal.Variable word.text dollar.spot)) refl) refl
+variable-predictive : {n : ℕ} → Predictive n n (grammar.variable false) (grammar.variable false) (reading.variable false) (this (codes "$")) no_tokens false
+variable-predictive = bind-predictive (punctuator-predictive (codes "$") refl refl) (λ dollar. bind-predictive name-predictive (λ word. returns-predictive (literal.Variable word.text dollar.spot)) refl) refl
 
 -- the productions of a value, in the order in which the parser looks for them
 abbrev number_value : Phrase Literal
@@ -168,20 +167,20 @@ unfixed_reader nested =
     (pick is_string (reading.◌>>=◌ (take is_string) (λ string. gives (literal.Text (string_value string.kind string.text) string.spot)))
     (pick is_name reading.word nested))
 
-unfixed-predictive : {n : ℕ} {p q : Phrase Literal} {r : Reader Literal} → Predictive n n p q r (union (marked 91) (marked 123)) no_tokens false
-    → Predictive n n (unfixed p) (unfixed q) (unfixed_reader r) (union numbers (union strings (union names (union (marked 91) (marked 123))))) no_tokens false
+unfixed-predictive : {n : ℕ} {p q : Phrase Literal} {r : Reader Literal} → Predictive n n p q r (union (this (codes "[")) (this (codes "{"))) no_tokens false
+    → Predictive n n (unfixed p) (unfixed q) (unfixed_reader r) (union numbers (union strings (union names (union (this (codes "[")) (this (codes "{")))))) no_tokens false
 unfixed-predictive nested =
     pick_first-predictive is_number is_number-has (bind-predictive number-predictive (λ number. returns-predictive (literal.Int number.text number.spot)) refl)
     (pick_first-predictive is_string is_string-has (bind-predictive string-predictive (λ string. returns-predictive (literal.Text (string_value string.kind string.text) string.spot)) refl)
     (pick_first-predictive is_name is_name-has (bind-predictive name-predictive (λ word. returns-predictive (grammar.word_value word)) refl) nested refl) refl) refl
 
-dollar_no : (t : Lexeme) → has (value_first true) t ≡ true → is_mark 36 t ≡ false
-dollar_no t h = is_mark-has 36 t ∙ disjoint-has (value_first true) (marked 36) t refl h
+dollar_no : (t : Lexeme) → has (value_first true) t ≡ true → is_punctuator (codes "$") t ≡ false
+dollar_no t h = is_punctuator-has (codes "$") t ∙ disjoint-has (value_first true) (this (codes "$")) t refl h
 
-values-predictive : {n : ℕ} {p q : Phrase Literal} {r : Reader Literal} (constant : Bool) → Predictive n n p q r (union (marked 91) (marked 123)) no_tokens false
+values-predictive : {n : ℕ} {p q : Phrase Literal} {r : Reader Literal} (constant : Bool) → Predictive n n p q r (union (this (codes "[")) (this (codes "{"))) no_tokens false
     → Predictive n n (either (grammar.variable constant) (unfixed p)) (either (grammar.variable constant) (unfixed q)) (reading.value_or constant r) (value_first constant) no_tokens false
-values-predictive true nested = forbid-predictive (is_mark 36) dollar_no (unfixed-predictive nested)
-values-predictive false nested = pick_first-predictive (is_mark 36) (is_mark-has 36) variable-predictive (unfixed-predictive nested) refl
+values-predictive true nested = forbid-predictive (is_punctuator (codes "$")) dollar_no (unfixed-predictive nested)
+values-predictive false nested = pick_first-predictive (is_punctuator (codes "$")) (is_punctuator-has (codes "$")) variable-predictive (unfixed-predictive nested) refl
 
 -- what a value is with no brackets and braces, and with them, is one of these
 to_right : {A : Type 0} (v w x y z : Phrase A) (tokens : List Lexeme) (a : A) → either (either v (either w (either x y))) z tokens a → either v (either w (either x (either y z))) tokens a
@@ -207,90 +206,90 @@ abbrev nested_within : Bool → ℕ → Phrase Literal
 nested_within constant zero = never
 nested_within constant (suc depth) = nested_of constant depth
 
-mark_first : {A : Type 0} (test : Lexeme → Bool) (f : Lexeme → Phrase A) (t : Lexeme) (tokens : List Lexeme) (a : A) → phrase.◌>>=◌ (token test) f (t ∷ tokens) a → test t ≡ true
-mark_first test f t tokens a h = by h.1.front h.1.whole h.1.front_is
+token_first : {A : Type 0} (test : Lexeme → Bool) (f : Lexeme → Phrase A) (t : Lexeme) (tokens : List Lexeme) (a : A) → phrase.◌>>=◌ (token test) f (t ∷ tokens) a → test t ≡ true
+token_first test f t tokens a h = by h.1.front h.1.whole h.1.front_is
   where
     by : (front : List Lexeme) → t ∷ tokens ≡ front ++ h.1.back → token test front h.0 → test t ≡ true
     by [] e is = let no = is.0 in absurd cc
     by (x ∷ front) e is = let same = is.0 in let one : t ≡ h.0 = cc in ap test one ∙ is.1
 
-mark_empty : {A : Type 0} (test : Lexeme → Bool) (f : Lexeme → Phrase A) (a : A) → phrase.◌>>=◌ (token test) f [] a → ⊥
-mark_empty test f a h = by h.1.front h.1.whole h.1.front_is
+token_empty : {A : Type 0} (test : Lexeme → Bool) (f : Lexeme → Phrase A) (a : A) → phrase.◌>>=◌ (token test) f [] a → ⊥
+token_empty test f a h = by h.1.front h.1.whole h.1.front_is
   where
     by : (front : List Lexeme) → [] ≡ front ++ h.1.back → token test front h.0 → ⊥
     by [] e is = let no = is.0 in absurd cc
     by (x ∷ front) e is = absurd cc
 
--- what stands behind the first mark
-abbrev behind_first : {A : Type 0} → Phrase A → ℕ → Lexeme → Phrase (Spot × A)
-behind_first p last first = phrase.◌>>=◌ p (λ value. phrase.◌>>◌ (grammar.mark last) (returns (first.spot, value)))
+-- what stands behind the first punctuator
+abbrev behind_first : {A : Type 0} → Phrase A → List ℕ → Lexeme → Phrase (Spot × A)
+behind_first p last first = phrase.◌>>=◌ p (λ value. phrase.◌>>◌ (grammar.punctuator last) (returns (first.spot, value)))
 
--- what begins with what stands between two marks begins with the first
-between_first : {A B : Type 0} (first last : ℕ) (p : Phrase A) (f : Spot × A → Phrase B) (t : Lexeme) (tokens : List Lexeme) (b : B) → phrase.◌>>=◌ (grammar.between first p last) f (t ∷ tokens) b → is_mark first t ≡ true
+-- what begins with what stands between two punctuators begins with the first
+between_first : {A B : Type 0} (first last : List ℕ) (p : Phrase A) (f : Spot × A → Phrase B) (t : Lexeme) (tokens : List Lexeme) (b : B) → phrase.◌>>=◌ (grammar.between first p last) f (t ∷ tokens) b → is_punctuator first t ≡ true
 between_first first last p f t tokens b h = by h.1.front h.1.whole h.1.front_is
   where
-    by : (front : List Lexeme) → t ∷ tokens ≡ front ++ h.1.back → grammar.between first p last front h.0 → is_mark first t ≡ true
-    by [] e is = absurd (mark_empty (is_mark first) (behind_first p last) h.0 is)
-    by (x ∷ front) e is = let same : t ≡ x = cc in ap (is_mark first) same ∙ mark_first (is_mark first) (behind_first p last) x front h.0 is
+    by : (front : List Lexeme) → t ∷ tokens ≡ front ++ h.1.back → grammar.between first p last front h.0 → is_punctuator first t ≡ true
+    by [] e is = absurd (token_empty (is_punctuator first) (behind_first p last) h.0 is)
+    by (x ∷ front) e is = let same : t ≡ x = cc in ap (is_punctuator first) same ∙ token_first (is_punctuator first) (behind_first p last) x front h.0 is
 
 nil_first : {A : Type 0} (u v : List A) → [] ≡ u ++ v → u ≡ []
 nil_first [] v h = refl
 nil_first (x ∷ u) v h = absurd cc
 
-between_empty : {A B : Type 0} (first last : ℕ) (p : Phrase A) (f : Spot × A → Phrase B) (b : B) → phrase.◌>>=◌ (grammar.between first p last) f [] b → ⊥
-between_empty first last p f b h = mark_empty (is_mark first) (behind_first p last) h.0 (subst (λ w. grammar.between first p last w h.0) (nil_first h.1.front h.1.back h.1.whole) h.1.front_is)
+between_empty : {A B : Type 0} (first last : List ℕ) (p : Phrase A) (f : Spot × A → Phrase B) (b : B) → phrase.◌>>=◌ (grammar.between first p last) f [] b → ⊥
+between_empty first last p f b h = token_empty (is_punctuator first) (behind_first p last) h.0 (subst (λ w. grammar.between first p last w h.0) (nil_first h.1.front h.1.back h.1.whole) h.1.front_is)
 
 -- ---- list and object values
 
 begins_value-has : (t : Lexeme) → reading.begins_value t ≡ has (value_first false) t
 begins_value-has t =
-    (λ i. is_mark-has 36 t i || (is_number-has t i || (is_string-has t i || (is_name-has t i || two_marks 91 123 t i))))
-    ∙ (λ i. has (marked 36) t || (has numbers t || (has strings t || sym (has-union names (union (marked 91) (marked 123)) t) i)))
-    ∙ (λ i. has (marked 36) t || (has numbers t || sym (has-union strings (union names (union (marked 91) (marked 123))) t) i))
-    ∙ (λ i. has (marked 36) t || sym (has-union numbers (union strings (union names (union (marked 91) (marked 123)))) t) i)
-    ∙ sym (has-union (marked 36) (union numbers (union strings (union names (union (marked 91) (marked 123))))) t)
+    (λ i. is_punctuator-has (codes "$") t i || (is_number-has t i || (is_string-has t i || (is_name-has t i || two_punctuators (codes "[") (codes "{") t i))))
+    ∙ (λ i. has (this (codes "$")) t || (has numbers t || (has strings t || sym (has-union names (union (this (codes "[")) (this (codes "{"))) t) i)))
+    ∙ (λ i. has (this (codes "$")) t || (has numbers t || sym (has-union strings (union names (union (this (codes "[")) (this (codes "{")))) t) i))
+    ∙ (λ i. has (this (codes "$")) t || sym (has-union numbers (union strings (union names (union (this (codes "[")) (this (codes "{"))))) t) i)
+    ∙ sym (has-union (this (codes "$")) (union numbers (union strings (union names (union (this (codes "[")) (this (codes "{")))))) t)
 
 value_first-all : (constant : Bool) (t : Lexeme) → has (value_first constant) t ≡ true → has (value_first false) t ≡ true
-value_first-all true t h = has-union (marked 36) (value_first true) t ∙ or_right (has (marked 36) t) (has (value_first true) t) h
+value_first-all true t h = has-union (this (codes "$")) (value_first true) t ∙ or_right (has (this (codes "$")) t) (has (value_first true) t) h
 value_first-all false t h = h
 
 value_apart : (constant : Bool) → disjoint (value_first constant) no_tokens ≡ true
 value_apart true = refl
 value_apart false = refl
 
-value_fresh : (constant : Bool) → disjoint (union (value_first constant) (only_if true (marked 93))) no_tokens ≡ true
+value_fresh : (constant : Bool) → disjoint (union (value_first constant) (only_if true (this (codes "]")))) no_tokens ≡ true
 value_fresh true = refl
 value_fresh false = refl
 
 list-predictive : {n : ℕ} {p q : Phrase Literal} {r : Reader Literal} (constant : Bool) → Predictive n n p q r (value_first constant) no_tokens false
-    → Predictive (suc n) (suc n) (grammar.list_value p) (grammar.list_value q) (reading.list_value r) (marked 91) no_tokens false
+    → Predictive (suc n) (suc n) (grammar.list_value p) (grammar.list_value q) (reading.list_value r) (this (codes "[")) no_tokens false
 list-predictive constant item =
-    bind-predictive (between-predictive true 91 93 (opens-predictive 91 bracket_opens)
+    bind-predictive (between-predictive true (codes "[") (codes "]") (opens-predictive (codes "[") bracket_opens)
     (many-predictive reading.begins_value (value_first false) (λ t h. begins_value-has t ∙ value_first-all constant t h) (λ t h. sym (begins_value-has t) ∙ h) (value_apart constant) item)
-    (closes-predictive 93 refl bracket_closes) refl (value_fresh constant))
+    (closes-predictive (codes "]") refl bracket_closes) refl (value_fresh constant))
     (λ list. returns-predictive (literal.List list.1 list.0)) refl
 
 argument-predictive : {n : ℕ} {p q : Phrase Literal} {r : Reader Literal} (constant : Bool) → Predictive n n p q r (value_first constant) no_tokens false
     → Predictive n n (grammar.argument p) (grammar.argument q) (reading.argument r) names no_tokens false
 unfolding reading.argument
 argument-predictive true value =
-    bind-predictive name-predictive (λ word. bind-predictive (mark-predictive 58 refl refl) (λ _. bind-predictive value (λ it. returns-predictive (roll-Argument (record { name = word.text; value = it; spot = word.spot }))) refl) refl) refl
+    bind-predictive name-predictive (λ word. bind-predictive (punctuator-predictive (codes ":") refl refl) (λ _. bind-predictive value (λ it. returns-predictive (roll-Argument (record { name = word.text; value = it; spot = word.spot }))) refl) refl) refl
 argument-predictive false value =
-    bind-predictive name-predictive (λ word. bind-predictive (mark-predictive 58 refl refl) (λ _. bind-predictive value (λ it. returns-predictive (roll-Argument (record { name = word.text; value = it; spot = word.spot }))) refl) refl) refl
+    bind-predictive name-predictive (λ word. bind-predictive (punctuator-predictive (codes ":") refl refl) (λ _. bind-predictive value (λ it. returns-predictive (roll-Argument (record { name = word.text; value = it; spot = word.spot }))) refl) refl) refl
 
 object-predictive : {n : ℕ} {p q : Phrase Literal} {r : Reader Literal} (constant : Bool) → Predictive n n p q r (value_first constant) no_tokens false
-    → Predictive (suc n) (suc n) (grammar.object_value p) (grammar.object_value q) (reading.object_value r) (marked 123) no_tokens false
+    → Predictive (suc n) (suc n) (grammar.object_value p) (grammar.object_value q) (reading.object_value r) (this (codes "{")) no_tokens false
 object-predictive constant value =
-    bind-predictive (between-predictive true 123 125 (opens-predictive 123 brace_opens)
+    bind-predictive (between-predictive true (codes "{") (codes "}") (opens-predictive (codes "{") brace_opens)
     (many-predictive is_name names (λ t h. is_name-has t ∙ h) (λ t h. sym (is_name-has t) ∙ h) refl (argument-predictive constant value))
-    (closes-predictive 125 refl brace_closes) refl refl)
+    (closes-predictive (codes "}") refl brace_closes) refl refl)
     (λ object. returns-predictive (literal.Object object.1 object.0)) refl
 
--- an empty list and an empty object, behind their first mark
-list_begun : (p : Phrase Literal) (t : Lexeme) → is_mark 91 t ≡ true → Begun (grammar.list_value p) (t ∷ [])
+-- an empty list and an empty object, behind their first punctuator
+list_begun : (p : Phrase Literal) (t : Lexeme) → is_punctuator (codes "[") t ≡ true → Begun (grammar.list_value p) (t ∷ [])
 unfolding a_token
 list_begun p t e =
-    let last = a_token kind.Punctuator (93 ∷ []) in
+    let last = a_token kind.Punctuator (codes "]") in
     record {
       more = last ∷ [];
       value = literal.List [] t.spot;
@@ -315,7 +314,7 @@ list_begun p t e =
                   back = last ∷ [];
                   whole = refl;
                   front_is = refl;
-                  back_is = (last, record { front = last ∷ []; back = []; whole = refl; front_is = (refl, mark_example 93); back_is = (refl, refl) });
+                  back_is = (last, record { front = last ∷ []; back = []; whole = refl; front_is = (refl, punctuator_example (codes "]")); back_is = (refl, refl) });
                 },
               );
             },
@@ -324,10 +323,10 @@ list_begun p t e =
       );
     }
 
-object_begun : (p : Phrase Literal) (t : Lexeme) → is_mark 123 t ≡ true → Begun (grammar.object_value p) (t ∷ [])
+object_begun : (p : Phrase Literal) (t : Lexeme) → is_punctuator (codes "{") t ≡ true → Begun (grammar.object_value p) (t ∷ [])
 unfolding a_token
 object_begun p t e =
-    let last = a_token kind.Punctuator (125 ∷ []) in
+    let last = a_token kind.Punctuator (codes "}") in
     record {
       more = last ∷ [];
       value = literal.Object [] t.spot;
@@ -352,7 +351,7 @@ object_begun p t e =
                   back = last ∷ [];
                   whole = refl;
                   front_is = refl;
-                  back_is = (last, record { front = last ∷ []; back = []; whole = refl; front_is = (refl, mark_example 125); back_is = (refl, refl) });
+                  back_is = (last, record { front = last ∷ []; back = []; whole = refl; front_is = (refl, punctuator_example (codes "}")); back_is = (refl, refl) });
                 },
               );
             },
@@ -366,23 +365,23 @@ or_else true b h f g = f refl
 or_else false b h f g = g h
 
 nested_begun : (constant : Bool) (depth : ℕ) (t : Lexeme) → reading.begins_nested t ≡ true → Begun (nested_of constant depth) (t ∷ [])
-nested_begun constant depth t h = or_else (is_mark 91 t) (is_mark 123 t) h
+nested_begun constant depth t h = or_else (is_punctuator (codes "[") t) (is_punctuator (codes "{") t) h
     (λ e. let b = list_begun (grammar.value constant depth) t e in record { more = b.more; value = b.value; is = inl b.is })
     (λ e. let b = object_begun (grammar.value constant depth) t e in record { more = b.more; value = b.value; is = inr b.is })
 
 nested_begun_none : (constant : Bool) (depth : ℕ) → Begun (nested_of constant depth) []
 unfolding a_token
 nested_begun_none constant depth =
-    let b = list_begun (grammar.value constant depth) (a_token kind.Punctuator (91 ∷ [])) (mark_example 91) in
-    record { more = a_token kind.Punctuator (91 ∷ []) ∷ b.more; value = b.value; is = inl b.is }
+    let b = list_begun (grammar.value constant depth) (a_token kind.Punctuator (codes "[")) (punctuator_example (codes "[")) in
+    record { more = a_token kind.Punctuator (codes "[") ∷ b.more; value = b.value; is = inl b.is }
 
 nested_passes : (constant : Bool) (depth : ℕ) (t : Lexeme) (ts : List Lexeme) (a : Literal) → nested_of constant depth (t ∷ ts) a → reading.begins_nested t ≡ true
-nested_passes constant depth t ts a (inl h) = or_left (is_mark 91 t) (is_mark 123 t) (between_first 91 93 (phrase.many (grammar.value constant depth)) (λ x. returns (literal.List x.1 x.0)) t ts a h)
-nested_passes constant depth t ts a (inr h) = or_right (is_mark 91 t) (is_mark 123 t) (between_first 123 125 (phrase.many (grammar.argument (grammar.value constant depth))) (λ x. returns (literal.Object x.1 x.0)) t ts a h)
+nested_passes constant depth t ts a (inl h) = or_left (is_punctuator (codes "[") t) (is_punctuator (codes "{") t) (between_first (codes "[") (codes "]") (phrase.many (grammar.value constant depth)) (λ x. returns (literal.List x.1 x.0)) t ts a h)
+nested_passes constant depth t ts a (inr h) = or_right (is_punctuator (codes "[") t) (is_punctuator (codes "{") t) (between_first (codes "{") (codes "}") (phrase.many (grammar.argument (grammar.value constant depth))) (λ x. returns (literal.Object x.1 x.0)) t ts a h)
 
 nested_empty : (constant : Bool) (depth : ℕ) (a : Literal) → nested_of constant depth [] a → ⊥
-nested_empty constant depth a (inl h) = between_empty 91 93 (phrase.many (grammar.value constant depth)) (λ x. returns (literal.List x.1 x.0)) a h
-nested_empty constant depth a (inr h) = between_empty 123 125 (phrase.many (grammar.argument (grammar.value constant depth))) (λ x. returns (literal.Object x.1 x.0)) a h
+nested_empty constant depth a (inl h) = between_empty (codes "[") (codes "]") (phrase.many (grammar.value constant depth)) (λ x. returns (literal.List x.1 x.0)) a h
+nested_empty constant depth a (inr h) = between_empty (codes "{") (codes "}") (phrase.many (grammar.argument (grammar.value constant depth))) (λ x. returns (literal.Object x.1 x.0)) a h
 
 within_passes : (constant : Bool) (depth : ℕ) (t : Lexeme) (ts : List Lexeme) (a : Literal) → nested_within constant depth (t ∷ ts) a → reading.begins_nested t ≡ true
 within_passes constant zero t ts a h = absurd h
@@ -396,7 +395,7 @@ value_within : (constant : Bool) (depth : ℕ) (tokens : List Lexeme) (a : Liter
 value_within constant zero tokens a h = to_right (grammar.variable constant) number_value string_value_of word_of never tokens a (inl h)
 value_within constant (suc depth) tokens a h = to_right (grammar.variable constant) number_value string_value_of word_of (nested_of constant depth) tokens a h
 
-value_from : (constant : Bool) (n k : ℕ) → Predictive n n (nested_of constant n) (nested_within constant k) (reading.nested constant n) (union (marked 91) (marked 123)) no_tokens false
+value_from : (constant : Bool) (n k : ℕ) → Predictive n n (nested_of constant n) (nested_within constant k) (reading.nested constant n) (union (this (codes "[")) (this (codes "{"))) no_tokens false
     → Predictive n n (grammar.value constant (suc n)) (grammar.value constant k) (reading.value constant n) (value_first constant) no_tokens false
 value_from constant n k nested = other-predictive (grammar.value constant (suc n)) (grammar.value constant k)
     (to_left (grammar.variable constant) number_value string_value_of word_of (nested_of constant n))
@@ -404,13 +403,13 @@ value_from constant n k nested = other-predictive (grammar.value constant (suc n
     (value_within constant k) (values-predictive constant nested)
 
 nested_from : (constant : Bool) (n k : ℕ) → Predictive n n (grammar.value constant (suc n)) (grammar.value constant k) (reading.value constant n) (value_first constant) no_tokens false
-    → Predictive (suc n) (suc n) (nested_of constant (suc n)) (nested_of constant k) (reading.nested_value (reading.value constant n)) (union (marked 91) (marked 123)) no_tokens false
-nested_from constant n k value = pick_first-predictive (is_mark 91) (is_mark-has 91) (list-predictive constant value) (object-predictive constant value) refl
+    → Predictive (suc n) (suc n) (nested_of constant (suc n)) (nested_of constant k) (reading.nested_value (reading.value constant n)) (union (this (codes "[")) (this (codes "{"))) no_tokens false
+nested_from constant n k value = pick_first-predictive (is_punctuator (codes "[")) (is_punctuator-has (codes "[")) (list-predictive constant value) (object-predictive constant value) refl
 
-nested-predictive : (constant : Bool) (n k : ℕ) → Predictive n n (nested_of constant n) (nested_within constant k) (reading.nested constant n) (union (marked 91) (marked 123)) no_tokens false
+nested-predictive : (constant : Bool) (n k : ℕ) → Predictive n n (nested_of constant n) (nested_within constant k) (reading.nested constant n) (union (this (codes "[")) (this (codes "{"))) no_tokens false
 unfolding reading.nested
-nested-predictive constant zero k = shut-predictive (nested_of constant 0) (nested_within constant k) reading.begins_nested (union (marked 91) (marked 123)) (nested_begun_none constant 0)
-    (nested_empty constant 0) (within_empty constant k) (λ t h. (h, nested_begun constant 0 t h)) (within_passes constant k) (λ t h. sym (two_marks 91 123 t) ∙ h)
+nested-predictive constant zero k = shut-predictive (nested_of constant 0) (nested_within constant k) reading.begins_nested (union (this (codes "[")) (this (codes "{"))) (nested_begun_none constant 0)
+    (nested_empty constant 0) (within_empty constant k) (λ t h. (h, nested_begun constant 0 t h)) (within_passes constant k) (λ t h. sym (two_punctuators (codes "[") (codes "{") t) ∙ h)
 nested-predictive constant (suc n) (suc k) = nested_from constant n k (value_from constant n k (nested-predictive constant n k))
 nested-predictive constant (suc n) zero = other-predictive (nested_of constant (suc n)) never (λ tokens a h. h) (λ tokens a h. h) (λ tokens a h. absurd h)
     (nested_from constant n zero (value_from constant n zero (nested-predictive constant n zero)))
@@ -420,48 +419,46 @@ value-predictive constant n k = value_from constant n k (nested-predictive const
 
 -- ---- arguments and directives
 
-abbrev marks : List ℕ → Set
-marks bytes = record { marks = bytes; names = false; numbers = false; strings = false; all = false }
-
-value_empty : (constant : Bool) → disjoint (value_first constant) no_tokens ≡ true
-value_empty constant = value_apart constant
+-- the punctuators of these texts
+abbrev these : List (List ℕ) → Set
+these texts = record { punctuators = texts; names = false; numbers = false; strings = false; all = false }
 
 -- a phrase or nothing, where the next token tells
-listed-predictive : {A : Type 0} {n : ℕ} {p q : Phrase (List A)} {r : Reader (List A)} (byte : ℕ)
-    → Predictive n n p q r (marked byte) no_tokens false
-    → Predictive n n (phrase.listed p) (phrase.listed q) (reading.listed (is_mark byte) r) (marked byte) (marked byte) true
-listed-predictive byte one = pick_first-predictive (is_mark byte) (is_mark-has byte) one (returns-predictive []) refl
+listed-predictive : {A : Type 0} {n : ℕ} {p q : Phrase (List A)} {r : Reader (List A)} (text : List ℕ)
+    → Predictive n n p q r (this text) no_tokens false
+    → Predictive n n (phrase.listed p) (phrase.listed q) (reading.listed (is_punctuator text) r) (this text) (this text) true
+listed-predictive text one = pick_first-predictive (is_punctuator text) (is_punctuator-has text) one (returns-predictive []) refl
 
-optional-predictive : {A : Type 0} {n : ℕ} {p q : Phrase A} {r : Reader A} (byte : ℕ)
-    → Predictive n n p q r (marked byte) no_tokens false
-    → Predictive n n (phrase.optional p) (phrase.optional q) (reading.optional (is_mark byte) r) (marked byte) (marked byte) true
-optional-predictive byte one = pick_first-predictive (is_mark byte) (is_mark-has byte) (bind-predictive one (λ a. returns-predictive (Some a)) refl) (returns-predictive None) refl
+optional-predictive : {A : Type 0} {n : ℕ} {p q : Phrase A} {r : Reader A} (text : List ℕ)
+    → Predictive n n p q r (this text) no_tokens false
+    → Predictive n n (phrase.optional p) (phrase.optional q) (reading.optional (is_punctuator text) r) (this text) (this text) true
+optional-predictive text one = pick_first-predictive (is_punctuator text) (is_punctuator-has text) (bind-predictive one (λ a. returns-predictive (Some a)) refl) (returns-predictive None) refl
 
-arguments-predictive : (constant : Bool) (n k : ℕ) → Predictive n n (grammar.arguments constant (suc n)) (grammar.arguments constant k) (reading.arguments constant n) (marked 40) (marked 40) true
+arguments-predictive : (constant : Bool) (n k : ℕ) → Predictive n n (grammar.arguments constant (suc n)) (grammar.arguments constant k) (reading.arguments constant n) (this (codes "(")) (this (codes "(")) true
 unfolding reading.arguments
-arguments-predictive constant n k = listed-predictive 40
-    (bind-predictive (between-predictive false 40 41 (mark-predictive 40 refl refl)
+arguments-predictive constant n k = listed-predictive (codes "(")
+    (bind-predictive (between-predictive false (codes "(") (codes ")") (punctuator-predictive (codes "(") refl refl)
     (some-predictive is_name names (λ t h. is_name-has t ∙ h) (λ t h. sym (is_name-has t) ∙ h) refl (argument-predictive constant (value-predictive constant n k)))
-    (mark-predictive 41 refl refl) refl refl)
+    (punctuator-predictive (codes ")") refl refl) refl refl)
     (λ all. returns-predictive all.1) refl)
 
-directive-predictive : (constant : Bool) (n k : ℕ) → Predictive n n (grammar.directive constant (suc n)) (grammar.directive constant k) (reading.directive constant n) (marked 64) (marked 40) false
+directive-predictive : (constant : Bool) (n k : ℕ) → Predictive n n (grammar.directive constant (suc n)) (grammar.directive constant k) (reading.directive constant n) (this (codes "@")) (this (codes "(")) false
 unfolding reading.directive
 directive-predictive constant n k =
-    bind-predictive (mark-predictive 64 refl refl) (λ at. bind-predictive name-predictive (λ word. bind-predictive (arguments-predictive constant n k) (λ given.
+    bind-predictive (punctuator-predictive (codes "@") refl refl) (λ at. bind-predictive name-predictive (λ word. bind-predictive (arguments-predictive constant n k) (λ given.
     returns-predictive (record { name = word.text; arguments = given; spot = at.spot })) refl) refl) refl
 
-directives-predictive : (constant : Bool) (n k : ℕ) → Predictive n n (grammar.directives constant (suc n)) (grammar.directives constant k) (reading.directives constant n) (marked 64) (marks (64 ∷ 40 ∷ [])) true
+directives-predictive : (constant : Bool) (n k : ℕ) → Predictive n n (grammar.directives constant (suc n)) (grammar.directives constant k) (reading.directives constant n) (this (codes "@")) (these (codes "@" ∷ codes "(" ∷ [])) true
 unfolding reading.directives
-directives-predictive constant n k = many-predictive (is_mark 64) (marked 64) (λ t h. is_mark-has 64 t ∙ h) (λ t h. sym (is_mark-has 64 t) ∙ h) refl (directive-predictive constant n k)
+directives-predictive constant n k = many-predictive (is_punctuator (codes "@")) (this (codes "@")) (λ t h. is_punctuator-has (codes "@") t ∙ h) (λ t h. sym (is_punctuator-has (codes "@") t) ∙ h) refl (directive-predictive constant n k)
 
 -- ---- variables and types
 
 named_type-predictive : {n : ℕ} → Predictive n n grammar.named_type grammar.named_type reading.named_type names no_tokens false
 named_type-predictive = bind-predictive name-predictive (λ word. returns-predictive (type.Named word.text word.spot)) refl
 
-non_null-predictive : {n : ℕ} (inner : TypeRef) → Predictive n n (grammar.maybe_non_null inner) (grammar.maybe_non_null inner) (reading.maybe_non_null inner) (marked 33) (marked 33) true
-non_null-predictive inner = pick_first-predictive (is_mark 33) (is_mark-has 33) (bind-predictive (mark-predictive 33 refl refl) (λ _. returns-predictive (type.NonNull inner)) refl) (returns-predictive inner) refl
+non_null-predictive : {n : ℕ} (inner : TypeRef) → Predictive n n (grammar.maybe_non_null inner) (grammar.maybe_non_null inner) (reading.maybe_non_null inner) (this (codes "!")) (this (codes "!")) true
+non_null-predictive inner = pick_first-predictive (is_punctuator (codes "!")) (is_punctuator-has (codes "!")) (bind-predictive (punctuator-predictive (codes "!") refl refl) (λ _. returns-predictive (type.NonNull inner)) refl) (returns-predictive inner) refl
 
 abbrev type_of : Phrase TypeRef → Phrase TypeRef
 type_of nested = phrase.◌>>=◌ (either grammar.named_type nested) grammar.maybe_non_null
@@ -474,15 +471,15 @@ type_within : (depth : ℕ) (tokens : List Lexeme) (a : TypeRef) → grammar.typ
 type_within zero tokens a h = (h.0, record { front = h.1.front; back = h.1.back; whole = h.1.whole; front_is = inl h.1.front_is; back_is = h.1.back_is })
 type_within (suc depth) tokens a h = h
 
-type_from : {n : ℕ} {p q : Phrase TypeRef} {r : Reader TypeRef} → Predictive n n p q r (marked 91) no_tokens false
-    → Predictive n n (type_of p) (type_of q) (reading.type_or r) (union names (marked 91)) (marked 33) false
+type_from : {n : ℕ} {p q : Phrase TypeRef} {r : Reader TypeRef} → Predictive n n p q r (this (codes "[")) no_tokens false
+    → Predictive n n (type_of p) (type_of q) (reading.type_or r) (union names (this (codes "["))) (this (codes "!")) false
 type_from nested = bind-predictive (pick_first-predictive is_name is_name-has named_type-predictive nested refl) non_null-predictive refl
 
-type_begun : (depth : ℕ) (t : Lexeme) → is_mark 91 t ≡ true → Begun (grammar.list_type (grammar.type_ref depth)) (t ∷ [])
+type_begun : (depth : ℕ) (t : Lexeme) → is_punctuator (codes "[") t ≡ true → Begun (grammar.list_type (grammar.type_ref depth)) (t ∷ [])
 unfolding a_token
 type_begun depth t e =
     let word = a_token kind.Name (codes "a") in
-    let last = a_token kind.Punctuator (93 ∷ []) in
+    let last = a_token kind.Punctuator (codes "]") in
     let inner = type.Named word.text word.spot in
     record {
       more = word ∷ last ∷ [];
@@ -508,7 +505,7 @@ type_begun depth t e =
                   back = last ∷ [];
                   whole = refl;
                   front_is = by depth;
-                  back_is = (last, record { front = last ∷ []; back = []; whole = refl; front_is = (refl, mark_example 93); back_is = (refl, refl) });
+                  back_is = (last, record { front = last ∷ []; back = []; whole = refl; front_is = (refl, punctuator_example (codes "]")); back_is = (refl, refl) });
                 },
               );
             },
@@ -527,55 +524,55 @@ type_begun depth t e =
 type_begun_none : (depth : ℕ) → Begun (grammar.list_type (grammar.type_ref depth)) []
 unfolding a_token
 type_begun_none depth =
-    let b = type_begun depth (a_token kind.Punctuator (91 ∷ [])) (mark_example 91) in
-    record { more = a_token kind.Punctuator (91 ∷ []) ∷ b.more; value = b.value; is = b.is }
+    let b = type_begun depth (a_token kind.Punctuator (codes "[")) (punctuator_example (codes "[")) in
+    record { more = a_token kind.Punctuator (codes "[") ∷ b.more; value = b.value; is = b.is }
 
-list_passes : (depth : ℕ) (t : Lexeme) (ts : List Lexeme) (a : TypeRef) → list_within depth (t ∷ ts) a → is_mark 91 t ≡ true
+list_passes : (depth : ℕ) (t : Lexeme) (ts : List Lexeme) (a : TypeRef) → list_within depth (t ∷ ts) a → is_punctuator (codes "[") t ≡ true
 list_passes zero t ts a h = absurd h
-list_passes (suc depth) t ts a h = between_first 91 93 (grammar.type_ref depth) (λ x. returns (type.List x.1)) t ts a h
+list_passes (suc depth) t ts a h = between_first (codes "[") (codes "]") (grammar.type_ref depth) (λ x. returns (type.List x.1)) t ts a h
 
 list_empty : (depth : ℕ) (a : TypeRef) → list_within depth [] a → ⊥
 list_empty zero a h = h
-list_empty (suc depth) a h = between_empty 91 93 (grammar.type_ref depth) (λ x. returns (type.List x.1)) a h
+list_empty (suc depth) a h = between_empty (codes "[") (codes "]") (grammar.type_ref depth) (λ x. returns (type.List x.1)) a h
 
-list_type_from : (n k : ℕ) → Predictive n n (grammar.type_ref (suc n)) (grammar.type_ref k) (reading.type_or (reading.list_type n)) (union names (marked 91)) (marked 33) false
-    → Predictive (suc n) (suc n) (grammar.list_type (grammar.type_ref (suc n))) (grammar.list_type (grammar.type_ref k)) (reading.◌>>=◌ (reading.between 91 (reading.type_or (reading.list_type n)) 93) (λ list. gives (type.List list.1))) (marked 91) no_tokens false
+list_type_from : (n k : ℕ) → Predictive n n (grammar.type_ref (suc n)) (grammar.type_ref k) (reading.type_or (reading.list_type n)) (union names (this (codes "["))) (this (codes "!")) false
+    → Predictive (suc n) (suc n) (grammar.list_type (grammar.type_ref (suc n))) (grammar.list_type (grammar.type_ref k)) (reading.◌>>=◌ (reading.between (codes "[") (reading.type_or (reading.list_type n)) (codes "]")) (λ list. gives (type.List list.1))) (this (codes "[")) no_tokens false
 list_type_from n k item =
-    bind-predictive (between-predictive false 91 93 (opens-predictive 91 bracket_opens) item (closes-predictive 93 refl bracket_closes) refl refl) (λ list. returns-predictive (type.List list.1)) refl
+    bind-predictive (between-predictive false (codes "[") (codes "]") (opens-predictive (codes "[") bracket_opens) item (closes-predictive (codes "]") refl bracket_closes) refl refl) (λ list. returns-predictive (type.List list.1)) refl
 
-type_at : (n k : ℕ) → Predictive n n (grammar.list_type (grammar.type_ref n)) (list_within k) (reading.list_type n) (marked 91) no_tokens false
-    → Predictive n n (grammar.type_ref (suc n)) (grammar.type_ref k) (reading.type_or (reading.list_type n)) (union names (marked 91)) (marked 33) false
+type_at : (n k : ℕ) → Predictive n n (grammar.list_type (grammar.type_ref n)) (list_within k) (reading.list_type n) (this (codes "[")) no_tokens false
+    → Predictive n n (grammar.type_ref (suc n)) (grammar.type_ref k) (reading.type_or (reading.list_type n)) (union names (this (codes "["))) (this (codes "!")) false
 type_at n k nested = other-predictive (grammar.type_ref (suc n)) (grammar.type_ref k) (λ tokens a h. h) (λ tokens a h. h) (type_within k) (type_from nested)
 
-list_type-predictive : (n k : ℕ) → Predictive n n (grammar.list_type (grammar.type_ref n)) (list_within k) (reading.list_type n) (marked 91) no_tokens false
+list_type-predictive : (n k : ℕ) → Predictive n n (grammar.list_type (grammar.type_ref n)) (list_within k) (reading.list_type n) (this (codes "[")) no_tokens false
 unfolding reading.list_type
-list_type-predictive zero k = shut-predictive (grammar.list_type (grammar.type_ref 0)) (list_within k) (is_mark 91) (marked 91) (type_begun_none 0)
-    (λ a h. between_empty 91 93 (grammar.type_ref 0) (λ x. returns (type.List x.1)) a h) (list_empty k) (λ t h. (bracket_opens t h, type_begun 0 t h)) (list_passes k) (λ t h. sym (is_mark-has 91 t) ∙ h)
+list_type-predictive zero k = shut-predictive (grammar.list_type (grammar.type_ref 0)) (list_within k) (is_punctuator (codes "[")) (this (codes "[")) (type_begun_none 0)
+    (λ a h. between_empty (codes "[") (codes "]") (grammar.type_ref 0) (λ x. returns (type.List x.1)) a h) (list_empty k) (λ t h. (bracket_opens t h, type_begun 0 t h)) (list_passes k) (λ t h. sym (is_punctuator-has (codes "[") t) ∙ h)
 list_type-predictive (suc n) (suc k) = list_type_from n k (type_at n k (list_type-predictive n k))
 list_type-predictive (suc n) zero = other-predictive (grammar.list_type (grammar.type_ref (suc n))) never (λ tokens a h. h) (λ tokens a h. h) (λ tokens a h. absurd h)
     (list_type_from n zero (type_at n zero (list_type-predictive n zero)))
 
-type_ref-predictive : (n k : ℕ) → Predictive n n (grammar.type_ref (suc n)) (grammar.type_ref k) (reading.type_ref n) (union names (marked 91)) (marked 33) false
+type_ref-predictive : (n k : ℕ) → Predictive n n (grammar.type_ref (suc n)) (grammar.type_ref k) (reading.type_ref n) (union names (this (codes "["))) (this (codes "!")) false
 unfolding reading.type_ref
 type_ref-predictive n k = type_at n k (list_type-predictive n k)
 
-default-predictive : (n k : ℕ) → Predictive n n (grammar.default_value (suc n)) (grammar.default_value k) (reading.default_value n) (marked 61) no_tokens false
+default-predictive : (n k : ℕ) → Predictive n n (grammar.default_value (suc n)) (grammar.default_value k) (reading.default_value n) (this (codes "=")) no_tokens false
 unfolding reading.default_value
-default-predictive n k = bind-predictive (mark-predictive 61 refl refl) (λ _. value-predictive true n k) refl
+default-predictive n k = bind-predictive (punctuator-predictive (codes "=") refl refl) (λ _. value-predictive true n k) refl
 
-variable_definition-predictive : (n k : ℕ) → Predictive n n (grammar.variable_definition (suc n)) (grammar.variable_definition k) (reading.variable_definition n) (marked 36) (marks (64 ∷ 40 ∷ 61 ∷ 33 ∷ [])) false
+variable_definition-predictive : (n k : ℕ) → Predictive n n (grammar.variable_definition (suc n)) (grammar.variable_definition k) (reading.variable_definition n) (this (codes "$")) (these (codes "@" ∷ codes "(" ∷ codes "=" ∷ codes "!" ∷ [])) false
 unfolding reading.variable_definition
 variable_definition-predictive n k =
-    bind-predictive (mark-predictive 36 refl refl) (λ dollar. bind-predictive name-predictive (λ word. bind-predictive (mark-predictive 58 refl refl) (λ _.
-    bind-predictive (type_ref-predictive n k) (λ kind. bind-predictive (optional-predictive 61 (default-predictive n k)) (λ default. bind-predictive (directives-predictive true n k) (λ used.
+    bind-predictive (punctuator-predictive (codes "$") refl refl) (λ dollar. bind-predictive name-predictive (λ word. bind-predictive (punctuator-predictive (codes ":") refl refl) (λ _.
+    bind-predictive (type_ref-predictive n k) (λ kind. bind-predictive (optional-predictive (codes "=") (default-predictive n k)) (λ default. bind-predictive (directives-predictive true n k) (λ used.
     returns-predictive (record { name = word.text; kind = kind; default = default; directives = used; spot = dollar.spot })) refl) refl) refl) refl) refl) refl
 
-variable_definitions-predictive : (n k : ℕ) → Predictive n n (grammar.variable_definitions (suc n)) (grammar.variable_definitions k) (reading.variable_definitions n) (marked 40) (marked 40) true
+variable_definitions-predictive : (n k : ℕ) → Predictive n n (grammar.variable_definitions (suc n)) (grammar.variable_definitions k) (reading.variable_definitions n) (this (codes "(")) (this (codes "(")) true
 unfolding reading.variable_definitions
-variable_definitions-predictive n k = listed-predictive 40
-    (bind-predictive (between-predictive false 40 41 (mark-predictive 40 refl refl)
-    (some-predictive (is_mark 36) (marked 36) (λ t h. is_mark-has 36 t ∙ h) (λ t h. sym (is_mark-has 36 t) ∙ h) refl (variable_definition-predictive n k))
-    (mark-predictive 41 refl refl) refl refl)
+variable_definitions-predictive n k = listed-predictive (codes "(")
+    (bind-predictive (between-predictive false (codes "(") (codes ")") (punctuator-predictive (codes "(") refl refl)
+    (some-predictive (is_punctuator (codes "$")) (this (codes "$")) (λ t h. is_punctuator-has (codes "$") t ∙ h) (λ t h. sym (is_punctuator-has (codes "$") t) ∙ h) refl (variable_definition-predictive n k))
+    (punctuator-predictive (codes ")") refl refl) refl refl)
     (λ all. returns-predictive all.1) refl)
 
 -- ---- selections
@@ -592,8 +589,8 @@ first_bind test q f passes empty t ts b h = by h.1.front h.1.whole h.1.front_is
 empty_bind : {A B : Type 0} (q : Phrase A) (f : A → Phrase B) → ((a : A) → q [] a → ⊥) → (b : B) → phrase.◌>>=◌ q f [] b → ⊥
 empty_bind q f empty b h = empty h.0 (subst (λ w. q w h.0) (nil_first h.1.front h.1.back h.1.whole) h.1.front_is)
 
-aliased-predictive : {n : ℕ} → Predictive n n grammar.aliased grammar.aliased reading.aliased (marked 58) no_tokens false
-aliased-predictive = bind-predictive (mark-predictive 58 refl refl) (λ _. name-predictive) refl
+aliased-predictive : {n : ℕ} → Predictive n n grammar.aliased grammar.aliased reading.aliased (this (codes ":")) no_tokens false
+aliased-predictive = bind-predictive (punctuator-predictive (codes ":") refl refl) (λ _. name-predictive) refl
 
 a_word : List ℕ → Lexeme
 a_word text = a_token kind.Name text
@@ -636,17 +633,17 @@ and_none : (a b : Bool) → a ≡ false → (a && b) ≡ false
 and_none true b h = absurd cc
 and_none false b h = refl
 
-no_name_no_fragment : (t : Lexeme) → has (marks (64 ∷ 123 ∷ [])) t ≡ true → is_fragment_name t ≡ false
-no_name_no_fragment t h = and_none (is_name t) _ (is_name-has t ∙ disjoint-has (marks (64 ∷ 123 ∷ [])) names t refl h)
+no_name_no_fragment : (t : Lexeme) → has (these (codes "@" ∷ codes "{" ∷ [])) t ≡ true → is_fragment_name t ≡ false
+no_name_no_fragment t h = and_none (is_name t) _ (is_name-has t ∙ disjoint-has (these (codes "@" ∷ codes "{" ∷ [])) names t refl h)
 
-module _ (n k : ℕ) (p q : Phrase (List Selection)) (r : Reader (List Selection)) (inner : Predictive n n p q r (marked 123) no_tokens false) where
-  field-predictive : Predictive n n (grammar.field (suc n) p) (grammar.field k q) (reading.field n r) names (marks (123 ∷ 64 ∷ 40 ∷ 40 ∷ 58 ∷ [])) false
+module _ (n k : ℕ) (p q : Phrase (List Selection)) (r : Reader (List Selection)) (inner : Predictive n n p q r (this (codes "{")) no_tokens false) where
+  field-predictive : Predictive n n (grammar.field (suc n) p) (grammar.field k q) (reading.field n r) names (these (codes "{" ∷ codes "@" ∷ codes "(" ∷ codes "(" ∷ codes ":" ∷ [])) false
   unfolding reading.field
   field-predictive =
-      bind-predictive name-predictive (λ first. bind-predictive (optional-predictive 58 aliased-predictive) (λ second. bind-predictive (arguments-predictive false n k) (λ given.
-      bind-predictive (directives-predictive false n k) (λ used. bind-predictive (listed-predictive 123 inner) (λ inside. returns-predictive _) refl) refl) refl) refl) refl
+      bind-predictive name-predictive (λ first. bind-predictive (optional-predictive (codes ":") aliased-predictive) (λ second. bind-predictive (arguments-predictive false n k) (λ given.
+      bind-predictive (directives-predictive false n k) (λ used. bind-predictive (listed-predictive (codes "{") inner) (λ inside. returns-predictive _) refl) refl) refl) refl) refl
 
-  spread-predictive : Predictive n n (grammar.spread (suc n)) (grammar.spread k) (reading.spread n) names (marks (64 ∷ 40 ∷ [])) false
+  spread-predictive : Predictive n n (grammar.spread (suc n)) (grammar.spread k) (reading.spread n) names (these (codes "@" ∷ codes "(" ∷ [])) false
   unfolding reading.spread
   spread-predictive =
       bind-predictive (word-predictive is_fragment_name (a_word (codes "a")) a_word_is fragment_name_is_name) (λ word. bind-predictive (directives-predictive false n k) (λ used. returns-predictive _) refl) refl
@@ -657,10 +654,10 @@ module _ (n k : ℕ) (p q : Phrase (List Selection)) (r : Reader (List Selection
 
   behind-predictive : (dots : Spot) (condition : Option Lexeme) → Predictive n n (behind_condition (suc n) p dots condition) (behind_condition k q dots condition)
       (reading.◌>>=◌ (reading.directives false n) (λ used. reading.◌>>=◌ r (λ inside. gives (selection.Inline (roll-InlineNode (record { condition = grammar.condition_text condition; directives = used; selections = inside; spot = grammar.inline_spot dots condition }))))))
-      (marks (64 ∷ 123 ∷ [])) no_tokens false
+      (these (codes "@" ∷ codes "{" ∷ [])) no_tokens false
   behind-predictive dots condition = bind-predictive (directives-predictive false n k) (λ used. bind-predictive inner (λ inside. returns-predictive _) refl) refl
 
-  inline-predictive : (dots : Spot) → Predictive n n (grammar.inline_fragment (suc n) p dots) (grammar.inline_fragment k q dots) (reading.inline_fragment n r dots) (union names (marks (64 ∷ 123 ∷ []))) no_tokens false
+  inline-predictive : (dots : Spot) → Predictive n n (grammar.inline_fragment (suc n) p dots) (grammar.inline_fragment k q dots) (reading.inline_fragment n r dots) (union names (these (codes "@" ∷ codes "{" ∷ []))) no_tokens false
   unfolding reading.inline_fragment
   inline-predictive dots = bind-predictive condition-predictive (behind-predictive dots) refl
 
@@ -675,19 +672,14 @@ module _ (n k : ℕ) (p q : Phrase (List Selection)) (r : Reader (List Selection
   spread_name : (t : Lexeme) (ts : List Lexeme) (a : Selection) → grammar.spread k (t ∷ ts) a → is_fragment_name t ≡ true
   spread_name = first_bind is_fragment_name (token is_fragment_name) _ (one_token is_fragment_name) (no_token is_fragment_name)
 
-  selection-predictive : Predictive n n (grammar.any_selection (suc n) p) (grammar.any_selection k q) (reading.any_selection n r) (union names (marked 46)) (marks (123 ∷ 64 ∷ 40 ∷ 40 ∷ 58 ∷ 64 ∷ 40 ∷ [])) false
+  selection-predictive : Predictive n n (grammar.any_selection (suc n) p) (grammar.any_selection k q) (reading.any_selection n r) (union names (this (codes "..."))) (these (codes "{" ∷ codes "@" ∷ codes "(" ∷ codes "(" ∷ codes ":" ∷ codes "@" ∷ codes "(" ∷ [])) false
   unfolding reading.any_selection
   selection-predictive = pick_first-predictive is_name is_name-has field-predictive
-      (bind-predictive (mark-predictive 46 refl refl) (λ dots.
+      (bind-predictive (punctuator-predictive (codes "...") refl refl) (λ dots.
       pick-predictive is_fragment_name names spread-predictive (inline-predictive dots.spot) spread_name (inline_no_name dots.spot) (λ t h. sym (is_name-has t) ∙ fragment_name_is_name t h)) refl) refl
 
-begins_selection-has : (t : Lexeme) → reading.begins_selection t ≡ has (union names (marked 46)) t
-begins_selection-has t = (λ i. is_name-has t i || is_mark-has 46 t i) ∙ sym (has-union names (marked 46) t)
-
--- the selections of a set that nests at most so deep: none where there is none
-abbrev sets_within : ℕ → Phrase (Spot × List Selection)
-sets_within zero = never
-sets_within (suc depth) = grammar.selection_set (suc depth)
+begins_selection-has : (t : Lexeme) → reading.begins_selection t ≡ has (union names (this (codes "..."))) t
+begins_selection-has t = (λ i. is_name-has t i || is_punctuator-has (codes "...") t i) ∙ sym (has-union names (this (codes "...")) t)
 
 a_field : Selection
 a_field = selection.Field (roll-FieldNode (record { alias = None; name = codes "a"; arguments = []; directives = []; selections = []; spot = record { line = 0; column = 0 } }))
@@ -734,10 +726,10 @@ field_begun depth sets =
       },
     )
 
-set_begun : (t : Lexeme) → is_mark 123 t ≡ true → Begun (grammar.selection_set 1) (t ∷ [])
+set_begun : (t : Lexeme) → is_punctuator (codes "{") t ≡ true → Begun (grammar.selection_set 1) (t ∷ [])
 set_begun t e =
     let word = a_word (codes "a") in
-    let last = a_token kind.Punctuator (125 ∷ []) in
+    let last = a_token kind.Punctuator (codes "}") in
     record {
       more = word ∷ last ∷ [];
       value = (t.spot, a_field ∷ []);
@@ -764,7 +756,7 @@ set_begun t e =
                   back_is = ([], record { front = []; back = []; whole = refl; front_is = refl; back_is = (refl, refl) });
                 },
               );
-              back_is = (last, record { front = last ∷ []; back = []; whole = refl; front_is = (refl, mark_example 125); back_is = (refl, refl) });
+              back_is = (last, record { front = last ∷ []; back = []; whole = refl; front_is = (refl, punctuator_example (codes "}")); back_is = (refl, refl) });
             },
           );
         },
@@ -773,44 +765,44 @@ set_begun t e =
 
 set_begun_none : Begun (grammar.selection_set 1) []
 set_begun_none =
-    let b = set_begun (a_token kind.Punctuator (123 ∷ [])) (mark_example 123) in
-    record { more = a_token kind.Punctuator (123 ∷ []) ∷ b.more; value = b.value; is = b.is }
+    let b = set_begun (a_token kind.Punctuator (codes "{")) (punctuator_example (codes "{")) in
+    record { more = a_token kind.Punctuator (codes "{") ∷ b.more; value = b.value; is = b.is }
 
-set_passes : (depth : ℕ) (t : Lexeme) (ts : List Lexeme) (a : Spot × List Selection) → grammar.selection_set depth (t ∷ ts) a → is_mark 123 t ≡ true
+set_passes : (depth : ℕ) (t : Lexeme) (ts : List Lexeme) (a : Spot × List Selection) → grammar.selection_set depth (t ∷ ts) a → is_punctuator (codes "{") t ≡ true
 set_passes zero t ts a h = absurd h
-set_passes (suc depth) t ts a h = mark_first (is_mark 123) (behind_first (phrase.some (grammar.any_selection depth (grammar.selections depth))) 125) t ts a h
+set_passes (suc depth) t ts a h = token_first (is_punctuator (codes "{")) (behind_first (phrase.some (grammar.any_selection depth (grammar.selections depth))) (codes "}")) t ts a h
 
 set_empty : (depth : ℕ) (a : Spot × List Selection) → grammar.selection_set depth [] a → ⊥
 set_empty zero a h = h
-set_empty (suc depth) a h = mark_empty (is_mark 123) (behind_first (phrase.some (grammar.any_selection depth (grammar.selections depth))) 125) a h
+set_empty (suc depth) a h = token_empty (is_punctuator (codes "{")) (behind_first (phrase.some (grammar.any_selection depth (grammar.selections depth))) (codes "}")) a h
 
-selections_from : (n k : ℕ) → Predictive n n (grammar.selection_set (suc n)) (grammar.selection_set k) (reading.selection_set n) (marked 123) no_tokens false
-    → Predictive n n (grammar.selections (suc n)) (grammar.selections k) (reading.selections n) (marked 123) no_tokens false
+selections_from : (n k : ℕ) → Predictive n n (grammar.selection_set (suc n)) (grammar.selection_set k) (reading.selection_set n) (this (codes "{")) no_tokens false
+    → Predictive n n (grammar.selections (suc n)) (grammar.selections k) (reading.selections n) (this (codes "{")) no_tokens false
 unfolding reading.selections
 selections_from n k set = bind-predictive set (λ it. returns-predictive it.1) refl
 
-set_from : (n k : ℕ) → Predictive n n (grammar.selection_set (suc n)) (grammar.selection_set k) (reading.selection_set n) (marked 123) no_tokens false
-    → Predictive (suc n) (suc n) (grammar.selection_set (suc (suc n))) (grammar.selection_set (suc k)) (reading.between 123 (reading.some reading.begins_selection (reading.any_selection n (reading.selections n))) 125) (marked 123) no_tokens false
+set_from : (n k : ℕ) → Predictive n n (grammar.selection_set (suc n)) (grammar.selection_set k) (reading.selection_set n) (this (codes "{")) no_tokens false
+    → Predictive (suc n) (suc n) (grammar.selection_set (suc (suc n))) (grammar.selection_set (suc k)) (reading.between (codes "{") (reading.some reading.begins_selection (reading.any_selection n (reading.selections n))) (codes "}")) (this (codes "{")) no_tokens false
 set_from n k set =
-    between-predictive false 123 125 (opens-predictive 123 brace_opens)
-    (some-predictive reading.begins_selection (union names (marked 46)) (λ t h. begins_selection-has t ∙ h) (λ t h. sym (begins_selection-has t) ∙ h) refl
+    between-predictive false (codes "{") (codes "}") (opens-predictive (codes "{") brace_opens)
+    (some-predictive reading.begins_selection (union names (this (codes "..."))) (λ t h. begins_selection-has t ∙ h) (λ t h. sym (begins_selection-has t) ∙ h) refl
     (selection-predictive n k (grammar.selections (suc n)) (grammar.selections k) (reading.selections n) (selections_from n k set)))
-    (closes-predictive 125 refl brace_closes) refl refl
+    (closes-predictive (codes "}") refl brace_closes) refl refl
 
-selection_set-predictive : (n k : ℕ) → Predictive n n (grammar.selection_set (suc n)) (grammar.selection_set k) (reading.selection_set n) (marked 123) no_tokens false
+selection_set-predictive : (n k : ℕ) → Predictive n n (grammar.selection_set (suc n)) (grammar.selection_set k) (reading.selection_set n) (this (codes "{")) no_tokens false
 unfolding reading.selection_set reading.selections
-selection_set-predictive zero k = shut-predictive (grammar.selection_set 1) (grammar.selection_set k) (is_mark 123) (marked 123) set_begun_none
-    (set_empty 1) (set_empty k) (λ t h. (brace_opens t h, set_begun t h)) (set_passes k) (λ t h. sym (is_mark-has 123 t) ∙ h)
+selection_set-predictive zero k = shut-predictive (grammar.selection_set 1) (grammar.selection_set k) (is_punctuator (codes "{")) (this (codes "{")) set_begun_none
+    (set_empty 1) (set_empty k) (λ t h. (brace_opens t h, set_begun t h)) (set_passes k) (λ t h. sym (is_punctuator-has (codes "{") t) ∙ h)
 selection_set-predictive (suc n) (suc k) = set_from n k (selection_set-predictive n k)
 selection_set-predictive (suc n) zero = other-predictive (grammar.selection_set (suc (suc n))) never (λ tokens a h. h) (λ tokens a h. h) (λ tokens a h. absurd h)
     (set_from n zero (selection_set-predictive n zero))
 
-selections-predictive : (n k : ℕ) → Predictive n n (grammar.selections (suc n)) (grammar.selections k) (reading.selections n) (marked 123) no_tokens false
+selections-predictive : (n k : ℕ) → Predictive n n (grammar.selections (suc n)) (grammar.selections k) (reading.selections n) (this (codes "{")) no_tokens false
 selections-predictive n k = selections_from n k (selection_set-predictive n k)
 
 -- ---- definitions
 
-short-predictive : (n k : ℕ) → Predictive n n (grammar.short_operation (suc n)) (grammar.short_operation k) (reading.short_operation n) (marked 123) no_tokens false
+short-predictive : (n k : ℕ) → Predictive n n (grammar.short_operation (suc n)) (grammar.short_operation k) (reading.short_operation n) (this (codes "{")) no_tokens false
 unfolding reading.short_operation
 short-predictive n k = bind-predictive (selection_set-predictive n k) (λ set. returns-predictive _) refl
 
@@ -860,14 +852,14 @@ fragment_no_type t h =
     (λ i. (is_name t && bytes_eq (word_text (codes "fragment") t h i) (codes "query")) || ((is_name t && bytes_eq (word_text (codes "fragment") t h i) (codes "mutation")) || (is_name t && bytes_eq (word_text (codes "fragment") t h i) (codes "subscription"))))
     ∙ both_false (is_name t)
 
-definition-predictive : (n k : ℕ) → Predictive n n (grammar.any_definition (suc n)) (grammar.any_definition k) (reading.any_definition n) (union (marked 123) names) no_tokens false
+definition-predictive : (n k : ℕ) → Predictive n n (grammar.any_definition (suc n)) (grammar.any_definition k) (reading.any_definition n) (union (this (codes "{")) names) no_tokens false
 unfolding reading.any_definition
-definition-predictive n k = pick_first-predictive (is_mark 123) (is_mark-has 123) (short-predictive n k)
+definition-predictive n k = pick_first-predictive (is_punctuator (codes "{")) (is_punctuator-has (codes "{")) (short-predictive n k)
     (pick-predictive is_operation_type names (operation-predictive n k) (fragment-predictive n k) (operation_first k) (λ t ts a h. fragment_no_type t (fragment_first k t ts a h)) (λ t h. sym (is_name-has t) ∙ type_is_name t h)) refl
 
 -- ---- documents
 
-pub document-predictive : (n k : ℕ) → Predictive n n (grammar.document (suc n)) (grammar.document k) (reading.document n) (union (marked 123) names) all_tokens false
+pub document-predictive : (n k : ℕ) → Predictive n n (grammar.document (suc n)) (grammar.document k) (reading.document n) (union (this (codes "{")) names) all_tokens false
 unfolding reading.document
 document-predictive n k =
     bind_apart-predictive (some-predictive reading.is_any all_tokens (λ t h. refl) (λ t h. refl) refl (definition-predictive n k)) (λ all. returns-predictive (record { definitions = all }))

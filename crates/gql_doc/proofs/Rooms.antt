@@ -1,7 +1,7 @@
 -- Readers by how many braces and brackets may still be opened.
-use Rattle.std.proofs.Common.{◌≡◌, ℕ, suc, ◌-◌, ◌<◌, Bool, ap, arith}
-use Rattle.gql_doc.specs.Marks.{is_mark}
-use Rattle.gql_doc.specs.Reading.{◌>>=◌, gives, between, some, nested, nested_value, value, shut, begins_nested, type_ref, list_type, selection_set, any_selection, selections, begins_selection}
+use Rattle.std.proofs.Common.{codes, ◌≡◌, ℕ, suc, ◌-◌, ◌<◌, Bool, ap, arith}
+use Rattle.gql_doc.specs.Terminals.{is_punctuator}
+use Rattle.gql_doc.specs.inner.Reading.{◌>>=◌, gives, between, some, nested, nested_value, value, shut, begins_nested, type_ref, list_type, selection_set, any_selection, selections, begins_selection}
 use Rattle.gql_model.specs.declared.syntax.TypeRef.TheVariants as type
 
 pub nested_more : (constant : Bool) (room : ℕ) → 0 < room → nested constant room ≡ nested_value (value constant (room - 1))
@@ -12,18 +12,18 @@ pub nested_none : (constant : Bool) → nested constant 0 ≡ shut begins_nested
 unfolding nested
 nested_none constant = λ i. shut begins_nested
 
-pub list_type_more : (room : ℕ) → 0 < room → list_type room ≡ (between 91 (type_ref (room - 1)) 93 >>= λ list. gives (type.List list.1))
+pub list_type_more : (room : ℕ) → 0 < room → list_type room ≡ (between (codes "[") (type_ref (room - 1)) (codes "]") >>= λ list. gives (type.List list.1))
 unfolding list_type type_ref
 list_type_more room some = let e : room ≡ suc (room - 1) = omega arith in ap list_type e
 
-pub list_type_none : list_type 0 ≡ shut (is_mark 91)
+pub list_type_none : list_type 0 ≡ shut (is_punctuator (codes "["))
 unfolding list_type
-list_type_none = λ i. shut (is_mark 91)
+list_type_none = λ i. shut (is_punctuator (codes "["))
 
-pub selection_set_more : (room : ℕ) → 0 < room → selection_set room ≡ between 123 (some begins_selection (any_selection (room - 1) (selections (room - 1)))) 125
+pub selection_set_more : (room : ℕ) → 0 < room → selection_set room ≡ between (codes "{") (some begins_selection (any_selection (room - 1) (selections (room - 1)))) (codes "}")
 unfolding selection_set selections
 selection_set_more room more = let e : room ≡ suc (room - 1) = omega arith in ap selection_set e
 
-pub selection_set_none : selection_set 0 ≡ shut (is_mark 123)
+pub selection_set_none : selection_set 0 ≡ shut (is_punctuator (codes "{"))
 unfolding selection_set
-selection_set_none = λ i. shut (is_mark 123)
+selection_set_none = λ i. shut (is_punctuator (codes "{"))

@@ -7,7 +7,7 @@ use Rattle.gql_lex.specs.declared.token.TokenKind.TheVariants as kind
 use Rattle.gql_doc.specs.StringValue.{string_value}
 use Rattle.gql_doc.specs.Quoting.{quoted_text}
 use Rattle.gql_doc.specs.Phrase.{Phrase, many, some}
-use Rattle.gql_doc.specs.Marks.{is_string, is_operation_type}
+use Rattle.gql_doc.specs.Terminals.{is_string, is_operation_type}
 use Rattle.gql_doc.specs.Nesting.{room_behind, room_after}
 use Rattle.gql_doc.specs.Grammar
 use Rattle.gql_doc.specs.Pieces.{Piece}

@@ -3,7 +3,7 @@ use Rattle.std.proofs.Common.{◌≡◌, Bool, true, false, refl}
 use Rattle.std.specs.Prelude.{◌&&◌, ◌||◌, codes}
 use Rattle.std.specs.Str.{bytes_eq}
 use Rattle.gql_lex.specs.Tokens.{Lexeme}
-use Rattle.gql_doc.specs.Marks.{is_name, is_operation_type}
+use Rattle.gql_doc.specs.Terminals.{is_name, is_operation_type}
 
 pub and_left : (a b : Bool) → a && b ≡ true → a ≡ true
 and_left true b h = refl

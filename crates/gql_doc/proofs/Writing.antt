@@ -8,7 +8,8 @@ use Rattle.gql_model.specs.declared.syntax.VariableDef.{VariableDef}
 use Rattle.gql_model.specs.declared.syntax.OperationKind.{OperationKind}
 use Rattle.gql_model.specs.declared.syntax.OperationKind.TheVariants as operation
 use Rattle.gql_doc.specs.Pieces.{Piece, spaced}
-use Rattle.gql_doc.specs.Printed.{Adds, spaced_out, word, enclosed, printed_list, printed_name, printed_variables, printed_directives, operation_word, operation_head}
+use Rattle.gql_doc.specs.inner.Writing.{Adds, spaced_out}
+use Rattle.gql_doc.specs.Printed.{word, enclosed, printed_list, printed_name, printed_variables, printed_directives, operation_word, operation_head}
 
 -- some, and then others
 pub wrote : {a b c : List ℕ} {ps qs : List Piece} → Adds a b ps → Adds b c qs → Adds a c (ps ++ qs)
@@ -40,7 +41,7 @@ pub titled : {a b s t : List ℕ} (k : TokenKind) → s ≡ t → ((kind : Token
 titled k same h = named (ap (λ text. record { kind = k; text = text } ∷ []) same) (h k)
 
 -- a list that has an item
-pub list_written : {A : Type 0} {a b : List ℕ} (f : A → List Piece) (opening : ℕ) (xs : List A) (closing : ℕ) → (xs ≡ [] → ⊥) → Adds a b (enclosed opening (flat_map f xs) closing) → Adds a b (printed_list f opening xs closing)
+pub list_written : {A : Type 0} {a b : List ℕ} (f : A → List Piece) (opening : List ℕ) (xs : List A) (closing : List ℕ) → (xs ≡ [] → ⊥) → Adds a b (enclosed opening (flat_map f xs) closing) → Adds a b (printed_list f opening xs closing)
 list_written f opening [] closing some h = absurd (some refl)
 list_written f opening (x ∷ xs) closing some h = h
 

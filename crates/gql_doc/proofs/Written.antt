@@ -1,4 +1,4 @@
--- What the lexer gives is written, and what is written is UTF-8.
+-- What is written is UTF-8.
 use Rattle.std.proofs.Common.{◌≡◌, ℕ, ◌<◌, Bool, true, false, inl, inr, List, [], ◌∷◌, flat_map, IsUtf8, refl, sym, subst, lit<, arith}
 use Rattle.std.specs.List.{AllByRecursion}
 use Rattle.std.specs.Char.{is_ascii_digit}
@@ -6,59 +6,13 @@ use Rattle.std.proofs.lemmas.Bool.Decides.{nat_tests}
 use Rattle.std.proofs.lemmas.Str.{IsUtf8-append, IsUtf8-nil}
 use Rattle.gql_lex.specs.declared.token.TokenKind.{TokenKind}
 use Rattle.gql_lex.specs.declared.token.TokenKind.TheVariants as kind
-use Rattle.gql_lex.specs.Classes.{begins_name, continues_name, is_mark}
+use Rattle.gql_lex.specs.Classes.{begins_name, continues_name, is_punctuator}
 use Rattle.gql_lex.specs.Longest.{Each, IsName, IsMinus, IsWhole}
-use Rattle.gql_lex.specs.Tokens.{Lexeme, End, Lexes}
-use Rattle.gql_lex.proofs.Lexing.{IsRight, tokens-right}
-use Rattle.gql_lex.proofs.Texts.{IsInteger, IsPunctuator, IsTextOf}
-use Rattle.gql_doc.specs.Marks.{is_name, is_name_kind, is_number, is_number_kind, is_string, is_string_kind}
+use Rattle.gql_lex.proofs.Texts.{IsPunctuator}
 use Rattle.gql_doc.specs.Quoting.{quoted_text}
-use Rattle.gql_doc.specs.Pieces.{Piece, piece, spaced}
+use Rattle.gql_doc.specs.Pieces.{Piece, spaced}
 use Rattle.gql_doc.proofs.Pieces.{IsText, IsWritten}
 use Rattle.gql_doc.proofs.Quoting.{AreAscii, encodes_ascii, scalars_ascii, IsUtf8-quoted_text}
-
--- ---- what the lexer gives
-
-by_kind : (kind : TokenKind) (text : List ℕ) → IsTextOf kind text → is_string_kind kind ≡ false → IsText kind text
-by_kind kind.Name text is other = is
-by_kind kind.Int text is other = is
-by_kind kind.Punctuator text is other = is
-by_kind kind.Quoted text is other = absurd (cc)
-by_kind kind.Block text is other = absurd (cc)
-
--- a token that is no string is written as it stands
-pub token-written : (token : Lexeme) → IsRight token → is_string token ≡ false → IsWritten (piece token)
-token-written token is other = by_kind token.kind token.text is other
-
-pub tokens-written : (text : List ℕ) (tokens : List Lexeme) (end : End) → Lexes [] text tokens end → AllByRecursion (λ (token : Lexeme). is_string token ≡ false → IsWritten (piece token)) tokens
-tokens-written text tokens end lexes = each tokens (tokens-right [] text tokens end lexes)
-  where
-    each : (tokens : List Lexeme) → AllByRecursion IsRight tokens → AllByRecursion (λ (token : Lexeme). is_string token ≡ false → IsWritten (piece token)) tokens
-    each [] are = tt
-    each (token ∷ tokens) are = (token-written token are.0, each tokens are.1)
-
--- ---- what the grammar takes
-
-name_by : (kind : TokenKind) (text : List ℕ) → IsTextOf kind text → is_name_kind kind ≡ true → IsName text
-name_by kind.Name text is class = is
-name_by kind.Int text is class = absurd (cc)
-name_by kind.Punctuator text is class = absurd (cc)
-name_by kind.Quoted text is class = absurd (cc)
-name_by kind.Block text is class = absurd (cc)
-
-number_by : (kind : TokenKind) (text : List ℕ) → IsTextOf kind text → is_number_kind kind ≡ true → IsInteger text
-number_by kind.Name text is class = absurd (cc)
-number_by kind.Int text is class = is
-number_by kind.Punctuator text is class = absurd (cc)
-number_by kind.Quoted text is class = absurd (cc)
-number_by kind.Block text is class = absurd (cc)
-
--- a token that the grammar takes for a name is written as one, and likewise a number
-pub name-written : (token : Lexeme) → IsRight token → is_name token ≡ true → IsWritten (record { kind = kind.Name; text = token.text })
-name-written token is taken = name_by token.kind token.text is taken
-
-pub number-written : (token : Lexeme) → IsRight token → is_number token ≡ true → IsWritten (record { kind = kind.Int; text = token.text })
-number-written token is taken = number_by token.kind token.text is taken
 
 -- the value of a string is written as a string
 pub string-written : (value : List ℕ) → IsUtf8 value → IsWritten (record { kind = kind.Quoted; text = quoted_text value })
@@ -82,8 +36,8 @@ later_small byte h = grind (arith, nat_tests)
 digit_small : (byte : ℕ) → is_ascii_digit byte ≡ true → byte < 128
 digit_small byte h = grind (arith, nat_tests)
 
-mark_small : (byte : ℕ) → is_mark byte ≡ true → byte < 128
-mark_small byte h = grind (arith, nat_tests)
+punctuator_small : (byte : ℕ) → is_punctuator byte ≡ true → byte < 128
+punctuator_small byte h = grind (arith, nat_tests)
 
 name_ascii : (text : List ℕ) → IsName text → AreAscii text
 name_ascii [] is = absurd is
@@ -99,7 +53,7 @@ whole_ascii (byte ∷ more) (inl is) = subst AreAscii (sym (λ i. is.0 i ∷ is.
 whole_ascii (byte ∷ more) (inr is) = each_small is_ascii_digit digit_small (byte ∷ more) is.1
 
 punctuator_ascii : (text : List ℕ) → IsPunctuator text → AreAscii text
-punctuator_ascii text (inl is) = subst AreAscii (sym is.2) (mark_small is.0 is.1, tt)
+punctuator_ascii text (inl is) = subst AreAscii (sym is.2) (punctuator_small is.0 is.1, tt)
 punctuator_ascii text (inr is) = subst AreAscii (sym is) (lit< tt, (lit< tt, (lit< tt, tt)))
 
 text_utf8 : (kind : TokenKind) (text : List ℕ) → IsText kind text → IsUtf8 text

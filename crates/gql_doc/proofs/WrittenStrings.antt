@@ -7,7 +7,8 @@ use Rattle.std.proofs.lemmas.Grind.{flat_map-append}
 use Rattle.std.specs.Char.{encode_utf8}
 use Rattle.gql_lex.specs.declared.token.TokenKind.{TokenKind}
 use Rattle.gql_doc.specs.Quoting.{quoted_byte}
-use Rattle.gql_doc.specs.Printed.{Adds, string}
+use Rattle.gql_doc.specs.inner.Writing.{Adds}
+use Rattle.gql_doc.specs.Printed.{string}
 
 plain_byte : (b : ℕ) → b ≢ 34 → b ≢ 92 → b ≢ 10 → 32 ≤ b → quoted_byte b ≡ b ∷ []
 plain_byte b not_quote not_backslash not_line high = grind (arith, nat_tests)

@@ -8,7 +8,7 @@ use Rattle.gql_tree.specs.declared.delivery.Spot.{Spot}
 use Rattle.gql_lex.specs.Tokens.{Lexeme}
 use Rattle.gql_doc.specs.StringValue.{string_value}
 use Rattle.gql_doc.specs.Phrase.{Phrase, token, returns, ◌>>=◌, ◌>>◌, either, never, many, some, optional, listed}
-use Rattle.gql_doc.specs.Marks.{is_mark, is_name, is_number, is_string, is_word, is_fragment_name, is_operation_type}
+use Rattle.gql_doc.specs.Terminals.{is_punctuator, is_name, is_number, is_string, is_word, is_fragment_name, is_operation_type}
 use Rattle.gql_model.specs.declared.syntax.Literal.{Literal}
 use Rattle.gql_model.specs.declared.syntax.Literal.TheVariants as literal
 use Rattle.gql_model.specs.declared.syntax.Argument.{Argument, roll-Argument}
@@ -26,19 +26,20 @@ use Rattle.gql_model.specs.declared.syntax.Definition.{Definition}
 use Rattle.gql_model.specs.declared.syntax.Definition.TheVariants as definition
 use Rattle.gql_model.specs.declared.syntax.Document.{Document}
 
-abbrev pub mark : ℕ → Phrase Lexeme
-mark byte = token (is_mark byte)
+-- the punctuator of this text
+abbrev pub punctuator : List ℕ → Phrase Lexeme
+punctuator text = token (is_punctuator text)
 
 -- Name
 abbrev pub name : Phrase Lexeme
 name = token is_name
 
--- what stands between two marks, with the place of the first
-abbrev pub between : {A : Type 0} → ℕ → Phrase A → ℕ → Phrase (Spot × A)
+-- what stands between two punctuators, with the place of the first
+abbrev pub between : {A : Type 0} → List ℕ → Phrase A → List ℕ → Phrase (Spot × A)
 between opening inside closing = do
-  first ← mark opening
+  first ← punctuator opening
   value ← inside
-  mark closing
+  punctuator closing
   returns (first.spot, value)
 
 -- ---- values (2.9)
@@ -55,7 +56,7 @@ word_value word =
 abbrev pub variable : Bool → Phrase Literal
 variable true = never
 variable false = do
-  dollar ← mark 36
+  dollar ← punctuator (codes "$")
   word ← name
   returns (literal.Variable word.text dollar.spot)
 
@@ -71,17 +72,17 @@ simple_value constant =
 abbrev pub argument : Phrase Literal → Phrase Argument
 argument value = do
   word ← name
-  mark 58
+  punctuator (codes ":")
   it ← value
   returns (roll-Argument (record { name = word.text; value = it; spot = word.spot }))
 
 -- ListValue
 abbrev pub list_value : Phrase Literal → Phrase Literal
-list_value item = between 91 (many item) 93 >>= λ list. returns (literal.List list.1 list.0)
+list_value item = between (codes "[") (many item) (codes "]") >>= λ list. returns (literal.List list.1 list.0)
 
 -- ObjectValue
 abbrev pub object_value : Phrase Literal → Phrase Literal
-object_value value = between 123 (many (argument value)) 125 >>= λ object. returns (literal.Object object.1 object.0)
+object_value value = between (codes "{") (many (argument value)) (codes "}") >>= λ object. returns (literal.Object object.1 object.0)
 
 -- Value
 abbrev pub value : Bool → ℕ → Phrase Literal
@@ -90,12 +91,12 @@ value constant (suc depth) = either (simple_value constant) (either (list_value 
 
 -- Arguments (2.6)
 abbrev pub arguments : Bool → ℕ → Phrase (List Argument)
-arguments constant depth = listed (between 40 (some (argument (value constant depth))) 41 >>= λ all. returns all.1)
+arguments constant depth = listed (between (codes "(") (some (argument (value constant depth))) (codes ")") >>= λ all. returns all.1)
 
 -- Directive (2.12)
 abbrev pub directive : Bool → ℕ → Phrase DirectiveUse
 directive constant depth = do
-  at ← mark 64
+  at ← punctuator (codes "@")
   word ← name
   given ← arguments constant depth
   returns (record { name = word.text; arguments = given; spot = at.spot })
@@ -108,7 +109,7 @@ directives constant depth = many (directive constant depth)
 
 -- NonNullType, or the type as it is
 abbrev pub maybe_non_null : TypeRef → Phrase TypeRef
-maybe_non_null inner = either (mark 33 >>= λ _. returns (type.NonNull inner)) (returns inner)
+maybe_non_null inner = either (punctuator (codes "!") >>= λ _. returns (type.NonNull inner)) (returns inner)
 
 -- NamedType
 abbrev pub named_type : Phrase TypeRef
@@ -116,7 +117,7 @@ named_type = name >>= λ word. returns (type.Named word.text word.spot)
 
 -- ListType
 abbrev pub list_type : Phrase TypeRef → Phrase TypeRef
-list_type item = between 91 item 93 >>= λ list. returns (type.List list.1)
+list_type item = between (codes "[") item (codes "]") >>= λ list. returns (type.List list.1)
 
 -- Type
 abbrev pub type_ref : ℕ → Phrase TypeRef
@@ -125,14 +126,14 @@ type_ref (suc depth) = either named_type (list_type (type_ref depth)) >>= maybe_
 
 -- DefaultValue
 abbrev pub default_value : ℕ → Phrase Literal
-default_value depth = mark 61 >>= λ _. value true depth
+default_value depth = punctuator (codes "=") >>= λ _. value true depth
 
 -- VariableDefinition
 abbrev pub variable_definition : ℕ → Phrase VariableDef
 variable_definition depth = do
-  dollar ← mark 36
+  dollar ← punctuator (codes "$")
   word ← name
-  mark 58
+  punctuator (codes ":")
   kind ← type_ref depth
   default ← optional (default_value depth)
   used ← directives true depth
@@ -140,13 +141,13 @@ variable_definition depth = do
 
 -- VariableDefinitions
 abbrev pub variable_definitions : ℕ → Phrase (List VariableDef)
-variable_definitions depth = listed (between 40 (some (variable_definition depth)) 41 >>= λ all. returns all.1)
+variable_definitions depth = listed (between (codes "(") (some (variable_definition depth)) (codes ")") >>= λ all. returns all.1)
 
 -- ---- selections (2.4, 2.5, 2.8)
 
 -- the name behind an alias and a colon
 abbrev pub aliased : Phrase Lexeme
-aliased = mark 58 >>= λ _. name
+aliased = punctuator (codes ":") >>= λ _. name
 
 -- where a colon and a name follow the first name, it is an alias
 abbrev pub alias_by : Lexeme → Option Lexeme → Option (List ℕ)
@@ -200,12 +201,12 @@ inline_fragment depth inner dots = do
 abbrev pub any_selection : ℕ → Phrase (List Selection) → Phrase Selection
 any_selection depth inner =
     either (field depth inner)
-    (mark 46 >>= λ dots. either (spread depth) (inline_fragment depth inner dots.spot))
+    (punctuator (codes "...") >>= λ dots. either (spread depth) (inline_fragment depth inner dots.spot))
 
 -- SelectionSet, with the place of its `{`
 abbrev pub selection_set : ℕ → Phrase (Spot × List Selection)
 selection_set zero = never
-selection_set (suc depth) = between 123 (some (any_selection depth (selection_set depth >>= λ set. returns set.1))) 125
+selection_set (suc depth) = between (codes "{") (some (any_selection depth (selection_set depth >>= λ set. returns set.1))) (codes "}")
 
 -- the selections of a set
 abbrev pub selections : ℕ → Phrase (List Selection)

@@ -3,13 +3,10 @@ pub mod StringValue
 pub mod Quoting
 pub mod Pieces
 pub mod Phrase
-pub mod Marks
+pub mod Terminals
 pub mod Grammar
 pub mod Nesting
 pub mod Answer
-pub mod Reading
-pub mod Left
-pub mod TextEnds
-pub mod Outcomes
 pub mod Printed
 pub mod Unplaced
+pub mod inner

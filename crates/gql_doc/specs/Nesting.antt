@@ -1,7 +1,7 @@
 -- How deep braces and brackets stand in one another.
 use Rattle.std.specs.Prelude.{ℕ, zero, suc, if◌then◌else◌, List, [], ◌∷◌, Option, Some, None, option_and_then, IsSome}
 use Rattle.gql_lex.specs.Tokens.{Lexeme}
-use Rattle.gql_doc.specs.Marks.{is_opening, is_closing}
+use Rattle.gql_doc.specs.Terminals.{is_opening, is_closing}
 
 -- one may be opened less; none where none may be
 abbrev pub taken : ℕ → Option ℕ

@@ -1,5 +1,5 @@
 -- How a document is printed: its tokens, as the grammar reads them, with one space between two.
-use Rattle.std.specs.Prelude.{◌≡◌, ℕ, Bool, true, false, List, [], ◌∷◌, ◌++◌, flat_map, Option, Some, None, codes}
+use Rattle.std.specs.Prelude.{ℕ, Bool, true, false, List, [], ◌∷◌, ◌++◌, flat_map, Option, Some, None, codes}
 use Rattle.gql_lex.specs.declared.token.TokenKind.TheVariants as kind
 use Rattle.gql_doc.specs.Quoting.{quoted_text}
 use Rattle.gql_doc.specs.Pieces.{Piece, spaced}
@@ -28,13 +28,9 @@ use Rattle.gql_model.specs.declared.syntax.Document.{Document}
 
 -- ---- pieces
 
--- a punctuator of one byte
-abbrev pub mark : ℕ → Piece
-mark byte = record { kind = kind.Punctuator; text = byte ∷ [] }
-
--- `...`
-abbrev pub dots : Piece
-dots = record { kind = kind.Punctuator; text = 46 ∷ 46 ∷ 46 ∷ [] }
+-- the punctuator of this text
+abbrev pub punctuator : List ℕ → Piece
+punctuator text = record { kind = kind.Punctuator; text = text }
 
 abbrev pub word : List ℕ → Piece
 word text = record { kind = kind.Name; text = text }
@@ -45,16 +41,16 @@ number digits = record { kind = kind.Int; text = digits }
 abbrev pub string : List ℕ → Piece
 string value = record { kind = kind.Quoted; text = quoted_text value }
 
--- what stands between two marks
-abbrev pub enclosed : ℕ → List Piece → ℕ → List Piece
-enclosed opening inside closing = mark opening ∷ (inside ++ mark closing ∷ [])
+-- what stands between two punctuators
+abbrev pub enclosed : List ℕ → List Piece → List ℕ → List Piece
+enclosed opening inside closing = punctuator opening ∷ (inside ++ punctuator closing ∷ [])
 
 -- pieces, one after another
 abbrev pub joined : List (List Piece) → List Piece
 joined lists = flat_map (λ pieces. pieces) lists
 
--- a list between two marks, each of its items printed; an empty one is not written
-abbrev pub printed_list : {A : Type 0} → (A → List Piece) → ℕ → List A → ℕ → List Piece
+-- a list between two punctuators, each of its items printed; an empty one is not written
+abbrev pub printed_list : {A : Type 0} → (A → List Piece) → List ℕ → List A → List ℕ → List Piece
 printed_list printed opening [] closing = []
 printed_list printed opening (first ∷ others) closing = enclosed opening (flat_map printed (first ∷ others)) closing
 
@@ -68,18 +64,18 @@ truth_word false = codes "false"
 
 -- Value
 abbrev pub value_level : Literal-F (List Piece) (List Piece) → List Piece
-value_level (Literal-F.Variable name spot) = mark 36 ∷ word name ∷ []
+value_level (Literal-F.Variable name spot) = punctuator (codes "$") ∷ word name ∷ []
 value_level (Literal-F.Int digits spot) = number digits ∷ []
 value_level (Literal-F.Text text spot) = string text ∷ []
 value_level (Literal-F.Bool truth spot) = word (truth_word truth) ∷ []
 value_level (Literal-F.Null spot) = word (codes "null") ∷ []
 value_level (Literal-F.Enum name spot) = word name ∷ []
-value_level (Literal-F.List items spot) = enclosed 91 (joined items) 93
-value_level (Literal-F.Object members spot) = enclosed 123 (joined members) 125
+value_level (Literal-F.List items spot) = enclosed (codes "[") (joined items) (codes "]")
+value_level (Literal-F.Object members spot) = enclosed (codes "{") (joined members) (codes "}")
 
 -- Argument, and ObjectField
 abbrev pub argument_level : Argument-F (List Piece) (List Piece) → List Piece
-argument_level it = word it.name ∷ mark 58 ∷ it.value
+argument_level it = word it.name ∷ punctuator (codes ":") ∷ it.value
 
 abbrev pub printed_value : Literal → List Piece
 printed_value = fold-Literal (List Piece) (List Piece) value_level argument_level
@@ -89,11 +85,11 @@ printed_argument = fold-Argument (List Piece) (List Piece) value_level argument_
 
 -- Arguments (2.6)
 abbrev pub printed_arguments : List Argument → List Piece
-printed_arguments all = printed_list printed_argument 40 all 41
+printed_arguments all = printed_list printed_argument (codes "(") all (codes ")")
 
 -- Directive (2.12)
 abbrev pub printed_directive : DirectiveUse → List Piece
-printed_directive it = mark 64 ∷ word it.name ∷ printed_arguments it.arguments
+printed_directive it = punctuator (codes "@") ∷ word it.name ∷ printed_arguments it.arguments
 
 -- Directives
 abbrev pub printed_directives : List DirectiveUse → List Piece
@@ -104,8 +100,8 @@ printed_directives all = flat_map printed_directive all
 -- Type
 abbrev pub type_level : TypeRef-F (List Piece) → List Piece
 type_level (TypeRef-F.Named name spot) = word name ∷ []
-type_level (TypeRef-F.List item) = enclosed 91 item 93
-type_level (TypeRef-F.NonNull inner) = inner ++ mark 33 ∷ []
+type_level (TypeRef-F.List item) = enclosed (codes "[") item (codes "]")
+type_level (TypeRef-F.NonNull inner) = inner ++ punctuator (codes "!") ∷ []
 
 abbrev pub printed_type : TypeRef → List Piece
 printed_type = fold-TypeRef (List Piece) type_level
@@ -113,30 +109,30 @@ printed_type = fold-TypeRef (List Piece) type_level
 -- DefaultValue, where there is one
 abbrev pub printed_default : Option Literal → List Piece
 printed_default None = []
-printed_default (Some value) = mark 61 ∷ printed_value value
+printed_default (Some value) = punctuator (codes "=") ∷ printed_value value
 
 -- VariableDefinition
 abbrev pub printed_variable : VariableDef → List Piece
-printed_variable it = mark 36 ∷ word it.name ∷ mark 58 ∷ (printed_type it.kind ++ (printed_default it.default ++ printed_directives it.directives))
+printed_variable it = punctuator (codes "$") ∷ word it.name ∷ punctuator (codes ":") ∷ (printed_type it.kind ++ (printed_default it.default ++ printed_directives it.directives))
 
 -- VariableDefinitions
 abbrev pub printed_variables : List VariableDef → List Piece
-printed_variables all = printed_list printed_variable 40 all 41
+printed_variables all = printed_list printed_variable (codes "(") all (codes ")")
 
 -- ---- selections (2.4, 2.5, 2.8)
 
 -- Alias, where there is one
 abbrev pub printed_alias : Option (List ℕ) → List Piece
 printed_alias None = []
-printed_alias (Some name) = word name ∷ mark 58 ∷ []
+printed_alias (Some name) = word name ∷ punctuator (codes ":") ∷ []
 
 -- Field; one without selections has no braces
 abbrev pub field_level : FieldNode-F (List Piece) (List Piece) (List Piece) → List Piece
-field_level it = printed_alias it.alias ++ (word it.name ∷ (printed_arguments it.arguments ++ (printed_directives it.directives ++ printed_list (λ pieces. pieces) 123 it.selections 125)))
+field_level it = printed_alias it.alias ++ (word it.name ∷ (printed_arguments it.arguments ++ (printed_directives it.directives ++ printed_list (λ pieces. pieces) (codes "{") it.selections (codes "}"))))
 
 -- FragmentSpread
 abbrev pub printed_spread : SpreadNode → List Piece
-printed_spread it = dots ∷ word it.name ∷ printed_directives it.directives
+printed_spread it = punctuator (codes "...") ∷ word it.name ∷ printed_directives it.directives
 
 -- TypeCondition
 abbrev pub type_condition : List ℕ → List Piece
@@ -149,7 +145,7 @@ printed_condition (Some name) = type_condition name
 
 -- InlineFragment
 abbrev pub inline_level : InlineNode-F (List Piece) (List Piece) (List Piece) → List Piece
-inline_level it = dots ∷ (printed_condition it.condition ++ (printed_directives it.directives ++ enclosed 123 (joined it.selections) 125))
+inline_level it = punctuator (codes "...") ∷ (printed_condition it.condition ++ (printed_directives it.directives ++ enclosed (codes "{") (joined it.selections) (codes "}")))
 
 -- Selection
 abbrev pub selection_level : Selection-F (List Piece) (List Piece) (List Piece) → List Piece
@@ -168,7 +164,7 @@ printed_inline = fold-InlineNode (List Piece) (List Piece) (List Piece) selectio
 
 -- SelectionSet
 abbrev pub printed_selections : List Selection → List Piece
-printed_selections all = enclosed 123 (flat_map printed_selection all) 125
+printed_selections all = enclosed (codes "{") (flat_map printed_selection all) (codes "}")
 
 -- ---- definitions (2.2, 2.3, 2.8)
 
@@ -207,14 +203,6 @@ abbrev pub printed : Document → List Piece
 printed document = flat_map printed_definition document.definitions
 
 -- ---- the text
-
--- the texts with a space behind each
-abbrev pub spaced_out : List Piece → List ℕ
-spaced_out pieces = flat_map (λ it. it.text ++ 32 ∷ []) pieces
-
--- a text with the texts of these pieces behind it, and a space behind each
-pub record Adds (old new : List ℕ) (pieces : List Piece) : Type 0 where
-  pub is : new ≡ old ++ spaced_out pieces
 
 -- the text of a document as it is printed
 abbrev pub print_text : Document → List ℕ

@@ -105,12 +105,6 @@ inline_level it = roll-InlineNode (record {
 abbrev pub unplaced_selection : Selection → Selection
 unplaced_selection = fold-Selection Selection FieldNode InlineNode selection_level field_level inline_level
 
-abbrev pub unplaced_field : FieldNode → FieldNode
-unplaced_field = fold-FieldNode Selection FieldNode InlineNode selection_level field_level inline_level
-
-abbrev pub unplaced_inline : InlineNode → InlineNode
-unplaced_inline = fold-InlineNode Selection FieldNode InlineNode selection_level field_level inline_level
-
 -- ---- definitions
 
 abbrev pub unplaced_operation : OperationDef → OperationDef

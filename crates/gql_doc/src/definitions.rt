@@ -2,19 +2,20 @@
 
 ghost use Rattle.std.specs.Prelude.{◌≡◌, option_map};
 ghost use Rattle.gql_lex.specs.Tokens.{lexeme};
-ghost use Rattle.gql_doc.specs.Left.{left};
+ghost use Rattle.gql_doc.specs.inner.Left.{left};
 ghost use Rattle.gql_doc.specs.Grammar.{operation_kind};
-ghost use Rattle.gql_doc.specs.Marks.{is_name};
-ghost use Rattle.gql_doc.specs.Reading.{Gives, many, optional, name, short_operation, operation_definition, fragment_definition, any_definition, document, is_any};
+ghost use Rattle.gql_doc.specs.Terminals.{is_name};
+ghost use Rattle.gql_doc.specs.inner.Reading.{Gives, many, optional, name, short_operation, operation_definition, fragment_definition, any_definition, document, is_any};
 
 use crate::parser::{Parser, Stop};
+use crate::terminal::Terminal;
 use gql_lex::Token;
 use gql_model::{Definition, Document, FragmentDef, OperationDef, OperationKind};
 use gql_tree::Listed;
 
 impl<'a> Parser<'a> {
     /// `ExecutableDocument`
-    #[tactic(auto, unfolding(crate::specs::Reading::document))]
+    #[tactic(auto, unfolding(crate::specs::inner::Reading::document))]
     pub(crate) fn document(&mut self, room: u32) -> Result<Document, Stop>
         ensures { Gives (λ x. x) result (left self.new) (document room (left self.old)) }
     {
@@ -38,13 +39,13 @@ impl<'a> Parser<'a> {
     }
 
     /// `ExecutableDefinition`
-    #[tactic(auto, unfolding(crate::specs::Reading::any_definition))]
+    #[tactic(auto, unfolding(crate::specs::inner::Reading::any_definition))]
     fn definition(&mut self, room: u32) -> Result<Definition, Stop>
         ensures { Gives (λ x. x) result (left self.new) (any_definition room (left self.old)) }
     {
-        if self.next_is(b'{') {
+        if self.next_is(Terminal::Punctuator("{")) {
             self.short_operation(room)
-        } else if self.next_is_operation_type() {
+        } else if self.next_is(Terminal::OperationType) {
             self.operation(room)
         } else {
             self.fragment_definition(room)
@@ -52,7 +53,7 @@ impl<'a> Parser<'a> {
     }
 
     /// `OperationDefinition` that is its selection set alone
-    #[tactic(auto, unfolding(crate::specs::Reading::short_operation))]
+    #[tactic(auto, unfolding(crate::specs::inner::Reading::short_operation))]
     fn short_operation(&mut self, room: u32) -> Result<Definition, Stop>
         ensures { Gives (λ x. x) result (left self.new) (short_operation room (left self.old)) }
     {
@@ -68,11 +69,11 @@ impl<'a> Parser<'a> {
     }
 
     /// `OperationDefinition` with its type
-    #[tactic(auto, unfolding(crate::specs::Reading::operation_definition))]
+    #[tactic(auto, unfolding(crate::specs::inner::Reading::operation_definition))]
     fn operation(&mut self, room: u32) -> Result<Definition, Stop>
         ensures { Gives (λ x. x) result (left self.new) (operation_definition room (left self.old)) }
     {
-        let word = self.operation_type()?;
+        let word = self.take(Terminal::OperationType)?;
         let name = self.maybe_name()?;
         let variables = self.variable_definitions(room)?;
         let directives = self.directives(false, room)?;
@@ -91,19 +92,19 @@ impl<'a> Parser<'a> {
     fn maybe_name(&mut self) -> Result<Option<&'a Token<'a>>, Stop>
         ensures { Gives (λ found. option_map (λ token. lexeme token.now) found) result (left self.new) (optional is_name name (left self.old)) }
     {
-        if !self.next_is_name() {
+        if !self.next_is(Terminal::Name) {
             return Ok(None);
         }
-        Ok(Some(self.name()?))
+        Ok(Some(self.take(Terminal::Name)?))
     }
 
     /// `FragmentDefinition`
-    #[tactic(auto, unfolding(crate::specs::Reading::fragment_definition))]
+    #[tactic(auto, unfolding(crate::specs::inner::Reading::fragment_definition))]
     fn fragment_definition(&mut self, room: u32) -> Result<Definition, Stop>
         ensures { Gives (λ x. x) result (left self.new) (fragment_definition room (left self.old)) }
     {
-        self.fragment()?;
-        let word = self.fragment_name()?;
+        self.take(Terminal::Word("fragment"))?;
+        let word = self.take(Terminal::FragmentName)?;
         let condition = self.type_condition()?;
         let directives = self.directives(false, room)?;
         let selections = self.selections(room)?;

@@ -3,7 +3,7 @@
 //! `parse` reads a document, or says what is in the way of one. Its contract rests on the grammar, a
 //! relation between tokens and documents (specs/Grammar.antt), and on what the first thing in the way
 //! of a document is (specs/Answer.antt); a text has one answer by the contract of
-//! `a_text_has_one_answer`. How the parser's own functions read is specs/Reading.antt, of
+//! `a_text_has_one_answer`. How the parser's own functions read is specs/inner/Reading.antt, of
 //! which no public clause speaks; proofs/Productions.antt shows that it is the grammar.
 //!
 //! `print` writes a document (specs/Printed.antt), and what it writes is that document again: the
@@ -15,7 +15,6 @@
 mod block_string;
 mod definitions;
 mod laws;
-mod marks;
 mod parser;
 mod parsing;
 mod printing;
@@ -23,8 +22,7 @@ mod quoted_string;
 mod refusal;
 mod selections;
 mod string_token;
-#[cfg(test)]
-mod tests;
+mod terminal;
 mod tokens;
 mod values;
 mod variables;

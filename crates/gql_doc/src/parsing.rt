@@ -4,8 +4,8 @@ ghost use Rattle.std.specs.Prelude.{◌≡◌, ◌≤◌, ◌<◌, ◌⊎◌, []
 ghost use Rattle.gql_lex.specs.Tokens.{lexeme};
 ghost use Rattle.gql_doc.specs.Answer.{Answers, Is, most_bytes};
 ghost use Rattle.gql_doc.specs.Nesting.{limit};
-ghost use Rattle.gql_doc.specs.Outcomes.{outcome, found, at_end, refusal_of};
-ghost use Rattle.gql_doc.specs.Reading.{document};
+ghost use Rattle.gql_doc.specs.inner.Outcomes.{outcome, found, at_end, refusal_of};
+ghost use Rattle.gql_doc.specs.inner.Reading.{document};
 ghost use Rattle.gql_model.specs.declared.syntax.Document.{Document as DocumentOf};
 ghost use Rattle.gql_doc.specs.declared.refusal.ParseRefusal.TheVariants as refusal;
 

@@ -5,7 +5,8 @@ ghost use Rattle.std.specs.Char.{encode_utf8};
 ghost use Rattle.gql_lex.specs.declared.token.TokenKind.{TokenKind as Kind};
 ghost use Rattle.gql_model.specs.declared.syntax.OperationKind.TheVariants as kinds;
 ghost use Rattle.gql_doc.specs.Quoting.{hex_of, quoted_byte};
-ghost use Rattle.gql_doc.specs.Printed.{Adds, word, string, truth_word, printed_value, printed_argument, printed_arguments, printed_directive, printed_directives, printed_type, printed_default, printed_variable, printed_variables, printed_alias, printed_field, printed_list, printed_spread, printed_condition, printed_inline, printed_selection, printed_selections, operation_word, printed_name, operation_head, printed_operation, printed_fragment, printed_definition, print_text};
+ghost use Rattle.gql_doc.specs.inner.Writing.{Adds};
+ghost use Rattle.gql_doc.specs.Printed.{word, string, truth_word, printed_value, printed_argument, printed_arguments, printed_directive, printed_directives, printed_type, printed_default, printed_variable, printed_variables, printed_alias, printed_field, printed_list, printed_spread, printed_condition, printed_inline, printed_selection, printed_selections, operation_word, printed_name, operation_head, printed_operation, printed_fragment, printed_definition, print_text};
 
 use gql_model::{
     Argument, Definition, DirectiveUse, Document, FieldNode, FragmentDef, InlineNode, Literal,
@@ -13,9 +14,6 @@ use gql_model::{
 };
 use gql_tree::{Listed, NoMemory, Text};
 use std::alloc::Global;
-
-#[cfg(test)]
-mod tests;
 
 /// Prints a document: its tokens, with one space between two.
 ///

@@ -11,20 +11,20 @@ use thiserror::Error;
 #[derive(Clone, Copy, Debug, PartialEq, Eq, Error)]
 pub enum ParseRefusal {
     /// The text has more than 1,048,576 bytes.
-    #[error("the text is too long")]
+    #[error("the text has more than 1,048,576 bytes")]
     TooLong,
     /// What stands there is no token.
     #[error(transparent)]
     Lex(LexRefusal),
     /// No document goes on with the token that begins there, or the text ends there, inside a
     /// document.
-    #[error("no document goes on so, at {}:{}", .spot.line, .spot.column)]
+    #[error("no document goes on with what stands at {}:{}", .spot.line, .spot.column)]
     Unexpected { spot: Spot },
     /// There begins the brace or bracket that is opened inside 128 others.
-    #[error("braces and brackets nest too deep, at {}:{}", .spot.line, .spot.column)]
+    #[error("the brace or bracket at {}:{} is opened inside 128 others", .spot.line, .spot.column)]
     TooDeep { spot: Spot },
     /// There was no memory for the document.
-    #[error("no memory left")]
+    #[error("no memory is left")]
     NoMemory,
 }
 

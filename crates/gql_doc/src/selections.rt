@@ -1,12 +1,13 @@
 //! Selections: sections 2.4, 2.5 and 2.8 of the standard.
 
-ghost use Rattle.std.specs.Prelude.{◌≡◌, option_map};
+ghost use Rattle.std.specs.Prelude.{codes, ◌≡◌, option_map};
 ghost use Rattle.gql_lex.specs.Tokens.{lexeme};
-ghost use Rattle.gql_doc.specs.Left.{left};
-ghost use Rattle.gql_doc.specs.Marks.{is_mark, is_word, is_name};
-ghost use Rattle.gql_doc.specs.Reading.{Gives, next_is, many, optional, listed, aliased, type_condition, field, spread, inline_fragment, any_selection, selection_set, selections, begins_selection, is_on};
+ghost use Rattle.gql_doc.specs.inner.Left.{left};
+ghost use Rattle.gql_doc.specs.Terminals.{is_punctuator, is_word, is_name};
+ghost use Rattle.gql_doc.specs.inner.Reading.{Gives, next_is, many, optional, listed, aliased, type_condition, field, spread, inline_fragment, any_selection, selection_set, selections, begins_selection, is_on};
 
 use crate::parser::{Parser, Stop};
+use crate::terminal::Terminal;
 use gql_lex::Token;
 use gql_model::{FieldNode, InlineNode, Selection, SpreadNode};
 use gql_tree::{Listed, Spot};
@@ -19,16 +20,16 @@ impl<'a> Parser<'a> {
         ensures { Gives (λ x. x) result (left self.new) (selection_set room (left self.old)) }
     {
         if room == 0 {
-            return Err(if self.next_is(b'{') {
+            return Err(if self.next_is(Terminal::Punctuator("{")) {
                 Stop::TooDeep
             } else {
                 Stop::Unexpected
             });
         }
-        let opening = self.mark(b'{')?;
+        let opening = self.take(Terminal::Punctuator("{"))?;
         self.require(self.next_is_selection())?;
         let selections = self.some_selections(room - 1)?;
-        self.mark(b'}')?;
+        self.take(Terminal::Punctuator("}"))?;
         Ok((opening.spot, selections))
     }
 
@@ -51,12 +52,12 @@ impl<'a> Parser<'a> {
     fn next_is_selection(&self) -> bool
         ensures { result ≡ next_is begins_selection (left self.now) }
     {
-        self.next_is_name() || self.next_is(b'.')
+        self.next_is(Terminal::Name) || self.next_is(Terminal::Punctuator("..."))
     }
 
     /// `SelectionSet`
     #[cycle(selection)]
-    #[tactic(auto, unfolding(crate::specs::Reading::selections))]
+    #[tactic(auto, unfolding(crate::specs::inner::Reading::selections))]
     pub(crate) fn selections(&mut self, room: u32) -> Result<Listed<Selection>, Stop>
         ensures { Gives (λ x. x) result (left self.new) (selections room (left self.old)) }
     {
@@ -66,15 +67,15 @@ impl<'a> Parser<'a> {
 
     /// `Selection`
     #[cycle(selection)]
-    #[tactic(auto, unfolding(crate::specs::Reading::any_selection))]
+    #[tactic(auto, unfolding(crate::specs::inner::Reading::any_selection))]
     fn selection(&mut self, room: u32) -> Result<Selection, Stop>
         ensures { Gives (λ x. x) result (left self.new) (any_selection room (selections room) (left self.old)) }
     {
-        if self.next_is_name() {
+        if self.next_is(Terminal::Name) {
             return self.field(room);
         }
-        let dots = self.mark(b'.')?;
-        if self.next_is_fragment_name() {
+        let dots = self.take(Terminal::Punctuator("..."))?;
+        if self.next_is(Terminal::FragmentName) {
             self.spread(room)
         } else {
             self.inline_fragment(room, dots.spot)
@@ -83,15 +84,15 @@ impl<'a> Parser<'a> {
 
     /// `Field`
     #[cycle(selection)]
-    #[tactic(auto, unfolding(crate::specs::Reading::field))]
+    #[tactic(auto, unfolding(crate::specs::inner::Reading::field))]
     fn field(&mut self, room: u32) -> Result<Selection, Stop>
         ensures { Gives (λ x. x) result (left self.new) (field room (selections room) (left self.old)) }
     {
-        let first = self.name()?;
+        let first = self.take(Terminal::Name)?;
         let second = self.aliased()?;
         let arguments = self.arguments(false, room)?;
         let directives = self.directives(false, room)?;
-        let selections = if self.next_is(b'{') {
+        let selections = if self.next_is(Terminal::Punctuator("{")) {
             self.selections(room)?
         } else {
             Listed::new(self.alloc)
@@ -112,21 +113,21 @@ impl<'a> Parser<'a> {
 
     /// The name behind an alias and its colon, where a colon stands next.
     fn aliased(&mut self) -> Result<Option<&'a Token<'a>>, Stop>
-        ensures { Gives (λ found. option_map (λ token. lexeme token.now) found) result (left self.new) (optional (is_mark 58) aliased (left self.old)) }
+        ensures { Gives (λ found. option_map (λ token. lexeme token.now) found) result (left self.new) (optional (is_punctuator (codes ":")) aliased (left self.old)) }
     {
-        if !self.next_is(b':') {
+        if !self.next_is(Terminal::Punctuator(":")) {
             return Ok(None);
         }
-        self.mark(b':')?;
-        Ok(Some(self.name()?))
+        self.take(Terminal::Punctuator(":"))?;
+        Ok(Some(self.take(Terminal::Name)?))
     }
 
     /// `FragmentSpread`, behind its `...`
-    #[tactic(auto, unfolding(crate::specs::Reading::spread))]
+    #[tactic(auto, unfolding(crate::specs::inner::Reading::spread))]
     fn spread(&mut self, room: u32) -> Result<Selection, Stop>
         ensures { Gives (λ x. x) result (left self.new) (spread room (left self.old)) }
     {
-        let word = self.fragment_name()?;
+        let word = self.take(Terminal::FragmentName)?;
         let directives = self.directives(false, room)?;
         Ok(Selection::Spread(SpreadNode {
             name: self.text(word)?,
@@ -137,7 +138,7 @@ impl<'a> Parser<'a> {
 
     /// `InlineFragment`, behind its `...`, which stands at `dots`
     #[cycle(selection)]
-    #[tactic(auto, unfolding(crate::specs::Reading::inline_fragment))]
+    #[tactic(auto, unfolding(crate::specs::inner::Reading::inline_fragment))]
     fn inline_fragment(&mut self, room: u32, dots: Spot) -> Result<Selection, Stop>
         ensures { Gives (λ x. x) result (left self.new) (inline_fragment room (selections room) dots (left self.old)) }
     {
@@ -160,7 +161,7 @@ impl<'a> Parser<'a> {
     fn maybe_type_condition(&mut self) -> Result<Option<&'a Token<'a>>, Stop>
         ensures { Gives (λ found. option_map (λ token. lexeme token.now) found) result (left self.new) (optional is_on type_condition (left self.old)) }
     {
-        if !self.next_is_on() {
+        if !self.next_is(Terminal::Word("on")) {
             return Ok(None);
         }
         Ok(Some(self.type_condition()?))
@@ -170,7 +171,7 @@ impl<'a> Parser<'a> {
     pub(crate) fn type_condition(&mut self) -> Result<&'a Token<'a>, Stop>
         ensures { Gives (λ token. lexeme token.now) result (left self.new) (type_condition (left self.old)) }
     {
-        self.on()?;
-        self.name()
+        self.take(Terminal::Word("on"))?;
+        self.take(Terminal::Name)
     }
 }

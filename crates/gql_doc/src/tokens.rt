@@ -2,7 +2,7 @@
 
 ghost use Rattle.std.specs.Prelude.{◌≡◌, ◌<◌, [], length, map, IfOk};
 ghost use Rattle.gql_lex.specs.Tokens.{Lexes, lexeme};
-ghost use Rattle.gql_doc.specs.TextEnds.{end_of, IsPlaced};
+ghost use Rattle.gql_doc.specs.inner.TextEnds.{end_of, IsPlaced};
 
 use gql_lex::{LexRefusal, Lexer, Token};
 use gql_tree::{Listed, NoMemory, Spot};

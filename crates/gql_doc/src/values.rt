@@ -5,12 +5,13 @@
 
 ghost use Rattle.std.specs.Prelude.{◌≡◌, ◌∷◌, [], codes, List, IfOk};
 ghost use Rattle.gql_lex.specs.Tokens.{lexeme};
-ghost use Rattle.gql_doc.specs.Left.{left};
-ghost use Rattle.gql_doc.specs.Marks.{is_mark, is_name, is_number, is_string};
-ghost use Rattle.gql_doc.specs.Reading.{Gives, next_is, many, value, nested, argument, arguments, directive, directives, begins_value, variable, word, list_value, object_value};
+ghost use Rattle.gql_doc.specs.inner.Left.{left};
+ghost use Rattle.gql_doc.specs.Terminals.{is_punctuator, is_name, is_number, is_string};
+ghost use Rattle.gql_doc.specs.inner.Reading.{Gives, next_is, many, value, nested, argument, arguments, directive, directives, begins_value, variable, word, list_value, object_value};
 
 use crate::parser::{Parser, Stop};
 use crate::string_token::string_value;
+use crate::terminal::Terminal;
 use gql_model::{Argument, DirectiveUse, Literal};
 use gql_tree::Listed;
 
@@ -20,18 +21,18 @@ impl Parser<'_> {
     pub(crate) fn value(&mut self, constant: bool, room: u32) -> Result<Literal, Stop>
         ensures { Gives (λ x. x) result (left self.new) (value constant room (left self.old)) }
     {
-        if self.next_is(b'$') {
+        if self.next_is(Terminal::Punctuator("$")) {
             return self.variable(constant);
         }
-        if self.next_is_number() {
-            let number = self.number()?;
+        if self.next_is(Terminal::Number) {
+            let number = self.take(Terminal::Number)?;
             return Ok(Literal::Int(self.text(number)?, number.spot));
         }
-        if self.next_is_string() {
-            let string = self.string()?;
+        if self.next_is(Terminal::StringValue) {
+            let string = self.take(Terminal::StringValue)?;
             return Ok(Literal::Text(string_value(self.alloc, string)?, string.spot));
         }
-        if self.next_is_name() {
+        if self.next_is(Terminal::Name) {
             return self.word();
         }
         self.nested(constant, room)
@@ -44,8 +45,8 @@ impl Parser<'_> {
         if constant {
             return Err(Stop::Unexpected);
         }
-        let dollar = self.mark(b'$')?;
-        let word = self.name()?;
+        let dollar = self.take(Terminal::Punctuator("$"))?;
+        let word = self.take(Terminal::Name)?;
         Ok(Literal::Variable(self.text(word)?, dollar.spot))
     }
 
@@ -53,7 +54,7 @@ impl Parser<'_> {
     fn word(&mut self) -> Result<Literal, Stop>
         ensures { Gives (λ x. x) result (left self.new) (word (left self.old)) }
     {
-        let word = self.name()?;
+        let word = self.take(Terminal::Name)?;
         match word.text {
             "true" => Ok(Literal::Bool(true, word.spot)),
             "false" => Ok(Literal::Bool(false, word.spot)),
@@ -68,9 +69,9 @@ impl Parser<'_> {
     fn nested(&mut self, constant: bool, room: u32) -> Result<Literal, Stop>
         ensures { Gives (λ x. x) result (left self.new) (nested constant room (left self.old)) }
     {
-        let is_list = self.next_is(b'[');
+        let is_list = self.next_is(Terminal::Punctuator("["));
         if room == 0 {
-            return Err(if is_list || self.next_is(b'{') {
+            return Err(if is_list || self.next_is(Terminal::Punctuator("{")) {
                 Stop::TooDeep
             } else {
                 Stop::Unexpected
@@ -88,9 +89,9 @@ impl Parser<'_> {
     fn list_value(&mut self, constant: bool, room: u32) -> Result<Literal, Stop>
         ensures { Gives (λ x. x) result (left self.new) (list_value (value constant room) (left self.old)) }
     {
-        let opening = self.mark(b'[')?;
+        let opening = self.take(Terminal::Punctuator("["))?;
         let items = self.values(constant, room)?;
-        self.mark(b']')?;
+        self.take(Terminal::Punctuator("]"))?;
         Ok(Literal::List(items, opening.spot))
     }
 
@@ -113,12 +114,12 @@ impl Parser<'_> {
     fn next_is_value(&self) -> bool
         ensures { result ≡ next_is begins_value (left self.now) }
     {
-        self.next_is(b'$')
-            || self.next_is_number()
-            || self.next_is_string()
-            || self.next_is_name()
-            || self.next_is(b'[')
-            || self.next_is(b'{')
+        self.next_is(Terminal::Punctuator("$"))
+            || self.next_is(Terminal::Number)
+            || self.next_is(Terminal::StringValue)
+            || self.next_is(Terminal::Name)
+            || self.next_is(Terminal::Punctuator("["))
+            || self.next_is(Terminal::Punctuator("{"))
     }
 
     /// `ObjectValue`, whose values may open `room` more.
@@ -126,9 +127,9 @@ impl Parser<'_> {
     fn object_value(&mut self, constant: bool, room: u32) -> Result<Literal, Stop>
         ensures { Gives (λ x. x) result (left self.new) (object_value (value constant room) (left self.old)) }
     {
-        let opening = self.mark(b'{')?;
+        let opening = self.take(Terminal::Punctuator("{"))?;
         let members = self.members(constant, room)?;
-        self.mark(b'}')?;
+        self.take(Terminal::Punctuator("}"))?;
         Ok(Literal::Object(members, opening.spot))
     }
 
@@ -139,7 +140,7 @@ impl Parser<'_> {
     {
         let mut members = Listed::new(self.alloc);
         for _ in 0..self.count() {
-            if !self.next_is_name() {
+            if !self.next_is(Terminal::Name) {
                 return Ok(members);
             }
             members.push(self.argument(constant, room)?)?;
@@ -149,12 +150,12 @@ impl Parser<'_> {
 
     /// `Name ":" Value`, an argument or an object's field
     #[cycle(value)]
-    #[tactic(auto, unfolding(crate::specs::Reading::argument))]
+    #[tactic(auto, unfolding(crate::specs::inner::Reading::argument))]
     fn argument(&mut self, constant: bool, room: u32) -> Result<Argument, Stop>
         ensures { Gives (λ x. x) result (left self.new) (argument (value constant room) (left self.old)) }
     {
-        let word = self.name()?;
-        self.mark(b':')?;
+        let word = self.take(Terminal::Name)?;
+        self.take(Terminal::Punctuator(":"))?;
         let value = self.value(constant, room)?;
         Ok(Argument {
             name: self.text(word)?,
@@ -164,27 +165,27 @@ impl Parser<'_> {
     }
 
     /// `Arguments?`
-    #[tactic(auto, unfolding(crate::specs::Reading::arguments))]
+    #[tactic(auto, unfolding(crate::specs::inner::Reading::arguments))]
     pub(crate) fn arguments(&mut self, constant: bool, room: u32) -> Result<Listed<Argument>, Stop>
         ensures { Gives (λ x. x) result (left self.new) (arguments constant room (left self.old)) }
     {
-        if !self.next_is(b'(') {
+        if !self.next_is(Terminal::Punctuator("(")) {
             return Ok(Listed::new(self.alloc));
         }
-        self.mark(b'(')?;
-        self.require(self.next_is_name())?;
+        self.take(Terminal::Punctuator("("))?;
+        self.require(self.next_is(Terminal::Name))?;
         let arguments = self.members(constant, room)?;
-        self.mark(b')')?;
+        self.take(Terminal::Punctuator(")"))?;
         Ok(arguments)
     }
 
     /// `Directive`
-    #[tactic(auto, unfolding(crate::specs::Reading::directive))]
+    #[tactic(auto, unfolding(crate::specs::inner::Reading::directive))]
     fn directive(&mut self, constant: bool, room: u32) -> Result<DirectiveUse, Stop>
         ensures { Gives (λ x. x) result (left self.new) (directive constant room (left self.old)) }
     {
-        let at = self.mark(b'@')?;
-        let word = self.name()?;
+        let at = self.take(Terminal::Punctuator("@"))?;
+        let word = self.take(Terminal::Name)?;
         let arguments = self.arguments(constant, room)?;
         Ok(DirectiveUse {
             name: self.text(word)?,
@@ -194,7 +195,7 @@ impl Parser<'_> {
     }
 
     /// `Directive*`
-    #[tactic(auto, unfolding(crate::specs::Reading::directives))]
+    #[tactic(auto, unfolding(crate::specs::inner::Reading::directives))]
     pub(crate) fn directives(
         &mut self,
         constant: bool,
@@ -204,7 +205,7 @@ impl Parser<'_> {
     {
         let mut directives = Listed::new(self.alloc);
         for _ in 0..self.count() {
-            if !self.next_is(b'@') {
+            if !self.next_is(Terminal::Punctuator("@")) {
                 return Ok(directives);
             }
             directives.push(self.directive(constant, room)?)?;

@@ -1,22 +1,23 @@
 //! Variables and types: sections 2.10 and 2.11 of the standard.
 
-ghost use Rattle.std.specs.Prelude.{◌≡◌, IfOk};
-ghost use Rattle.gql_doc.specs.Left.{left};
-ghost use Rattle.gql_doc.specs.Marks.{is_mark};
-ghost use Rattle.gql_doc.specs.Reading.{Gives, next_is, many, type_ref, list_type, named_type, maybe_non_null, variable_definition, variable_definitions, optional, default_value};
+ghost use Rattle.std.specs.Prelude.{codes, ◌≡◌, IfOk};
+ghost use Rattle.gql_doc.specs.inner.Left.{left};
+ghost use Rattle.gql_doc.specs.Terminals.{is_punctuator};
+ghost use Rattle.gql_doc.specs.inner.Reading.{Gives, next_is, many, type_ref, list_type, named_type, maybe_non_null, variable_definition, variable_definitions, optional, default_value};
 
 use crate::parser::{Parser, Stop};
+use crate::terminal::Terminal;
 use gql_model::{Boxed, Literal, TypeRef, VariableDef};
 use gql_tree::Listed;
 
 impl Parser<'_> {
     /// `Type`
     #[cycle(type_ref)]
-    #[tactic(auto, unfolding(crate::specs::Reading::type_ref))]
+    #[tactic(auto, unfolding(crate::specs::inner::Reading::type_ref))]
     fn type_ref(&mut self, room: u32) -> Result<TypeRef, Stop>
         ensures { Gives (λ x. x) result (left self.new) (type_ref room (left self.old)) }
     {
-        let inner = if self.next_is_name() {
+        let inner = if self.next_is(Terminal::Name) {
             self.named_type()?
         } else {
             self.list_type(room)?
@@ -28,7 +29,7 @@ impl Parser<'_> {
     fn named_type(&mut self) -> Result<TypeRef, Stop>
         ensures { Gives (λ x. x) result (left self.new) (named_type (left self.old)) }
     {
-        let word = self.name()?;
+        let word = self.take(Terminal::Name)?;
         Ok(TypeRef::Named(self.text(word)?, word.spot))
     }
 
@@ -39,15 +40,15 @@ impl Parser<'_> {
         ensures { Gives (λ x. x) result (left self.new) (list_type room (left self.old)) }
     {
         if room == 0 {
-            return Err(if self.next_is(b'[') {
+            return Err(if self.next_is(Terminal::Punctuator("[")) {
                 Stop::TooDeep
             } else {
                 Stop::Unexpected
             });
         }
-        self.mark(b'[')?;
+        self.take(Terminal::Punctuator("["))?;
         let item = self.type_ref(room - 1)?;
-        self.mark(b']')?;
+        self.take(Terminal::Punctuator("]"))?;
         Ok(TypeRef::List(Boxed::new(self.alloc, item)?))
     }
 
@@ -55,33 +56,33 @@ impl Parser<'_> {
     fn maybe_non_null(&mut self, inner: TypeRef) -> Result<TypeRef, Stop>
         ensures { Gives (λ x. x) result (left self.new) (maybe_non_null inner (left self.old)) }
     {
-        if !self.next_is(b'!') {
+        if !self.next_is(Terminal::Punctuator("!")) {
             return Ok(inner);
         }
-        self.mark(b'!')?;
+        self.take(Terminal::Punctuator("!"))?;
         Ok(TypeRef::NonNull(Boxed::new(self.alloc, inner)?))
     }
 
     /// `DefaultValue?`
-    #[tactic(auto, unfolding(crate::specs::Reading::default_value))]
+    #[tactic(auto, unfolding(crate::specs::inner::Reading::default_value))]
     fn default_value(&mut self, room: u32) -> Result<Option<Literal>, Stop>
-        ensures { Gives (λ x. x) result (left self.new) (optional (is_mark 61) (default_value room) (left self.old)) }
+        ensures { Gives (λ x. x) result (left self.new) (optional (is_punctuator (codes "=")) (default_value room) (left self.old)) }
     {
-        if !self.next_is(b'=') {
+        if !self.next_is(Terminal::Punctuator("=")) {
             return Ok(None);
         }
-        self.mark(b'=')?;
+        self.take(Terminal::Punctuator("="))?;
         Ok(Some(self.value(true, room)?))
     }
 
     /// `VariableDefinition`
-    #[tactic(auto, unfolding(crate::specs::Reading::variable_definition))]
+    #[tactic(auto, unfolding(crate::specs::inner::Reading::variable_definition))]
     fn variable_definition(&mut self, room: u32) -> Result<VariableDef, Stop>
         ensures { Gives (λ x. x) result (left self.new) (variable_definition room (left self.old)) }
     {
-        let dollar = self.mark(b'$')?;
-        let word = self.name()?;
-        self.mark(b':')?;
+        let dollar = self.take(Terminal::Punctuator("$"))?;
+        let word = self.take(Terminal::Name)?;
+        self.take(Terminal::Punctuator(":"))?;
         let kind = self.type_ref(room)?;
         let default = self.default_value(room)?;
         let directives = self.directives(true, room)?;
@@ -95,27 +96,27 @@ impl Parser<'_> {
     }
 
     /// `VariableDefinitions?`
-    #[tactic(auto, unfolding(crate::specs::Reading::variable_definitions))]
+    #[tactic(auto, unfolding(crate::specs::inner::Reading::variable_definitions))]
     pub(crate) fn variable_definitions(&mut self, room: u32) -> Result<Listed<VariableDef>, Stop>
         ensures { Gives (λ x. x) result (left self.new) (variable_definitions room (left self.old)) }
     {
-        if !self.next_is(b'(') {
+        if !self.next_is(Terminal::Punctuator("(")) {
             return Ok(Listed::new(self.alloc));
         }
-        self.mark(b'(')?;
-        self.require(self.next_is(b'$'))?;
+        self.take(Terminal::Punctuator("("))?;
+        self.require(self.next_is(Terminal::Punctuator("$")))?;
         let variables = self.some_variables(room)?;
-        self.mark(b')')?;
+        self.take(Terminal::Punctuator(")"))?;
         Ok(variables)
     }
 
     /// `VariableDefinition*`
     fn some_variables(&mut self, room: u32) -> Result<Listed<VariableDef>, Stop>
-        ensures { Gives (λ x. x) result (left self.new) (many (is_mark 36) (variable_definition room) (left self.old)) }
+        ensures { Gives (λ x. x) result (left self.new) (many (is_punctuator (codes "$")) (variable_definition room) (left self.old)) }
     {
         let mut variables = Listed::new(self.alloc);
         for _ in 0..self.count() {
-            if !self.next_is(b'$') {
+            if !self.next_is(Terminal::Punctuator("$")) {
                 return Ok(variables);
             }
             variables.push(self.variable_definition(room)?)?;

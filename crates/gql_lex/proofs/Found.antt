@@ -11,7 +11,7 @@ use Rattle.gql_lex.specs.declared.scan.Found.{Found}
 use Rattle.gql_lex.specs.declared.scan.Found.TheVariants.{Token, Wrong}
 use Rattle.gql_lex.specs.declared.token.TokenKind.{TokenKind}
 use Rattle.gql_lex.specs.Classes.{begins_name, continues_name}
-use Rattle.gql_lex.specs.Found.{Lies, Encloses}
+use Rattle.gql_lex.specs.inner.Found.{Lies, Encloses}
 use Rattle.gql_lex.specs.Numbers.{digits, minus_len, whole_len, integer_len}
 
 both_true : (a b : Bool) → a && b ≡ true → (a ≡ true) × (b ≡ true)

@@ -10,7 +10,7 @@ use Rattle.gql_lex.specs.declared.scan.Found.{Found}
 use Rattle.gql_lex.specs.declared.scan.Found.TheVariants.{Token, Wrong}
 use Rattle.gql_lex.specs.declared.scan.Fault.TheVariants as fault
 use Rattle.gql_lex.specs.declared.token.TokenKind.TheVariants as kind
-use Rattle.gql_lex.specs.Classes.{begins_name, continues_name, is_mark, is_blank, byte_order_mark}
+use Rattle.gql_lex.specs.Classes.{begins_name, continues_name, is_punctuator, is_blank, byte_order_mark}
 use Rattle.gql_lex.specs.Numbers.{digits, whole_len, fraction_len, exponent_len, integer_len, decimal_len, number_len, runs_on, number}
 use Rattle.gql_lex.specs.Longest.{IsName, IsMinus, IsWhole}
 use Rattle.gql_lex.specs.Front.{front}
@@ -73,10 +73,10 @@ front_number : (byte : ℕ) (rest : List ℕ) → begins_number byte ≡ true �
 unfolding begins_number
 front_number byte rest is =
     let no_name : begins_name byte ≡ false = grind (arith, nat_tests) in
-    let no_mark : is_mark byte ≡ false = grind (arith, nat_tests) in
+    let no_mark : is_punctuator byte ≡ false = grind (arith, nat_tests) in
     let no_dots : nat_eq 46 byte ≡ false = grind (arith, nat_tests) in
     cond-false (begins_name byte) _ _ no_name
-    ∙ cond-false (is_mark byte) _ _ no_mark
+    ∙ cond-false (is_punctuator byte) _ _ no_mark
     ∙ cond-false (starts_with nat_eq (byte ∷ rest) (46 ∷ 46 ∷ 46 ∷ [])) _ _ (and_left (nat_eq 46 byte) _ no_dots)
     ∙ cond-true (byte == 45 || is_ascii_digit byte) _ _ is
 
@@ -103,10 +103,10 @@ front-integer text tail is ends =
 
 -- ---- punctuators
 
-pub front-mark : (byte : ℕ) (tail : List ℕ) → is_mark byte ≡ true → front (byte ∷ tail) ≡ Some (Token kind.Punctuator 1)
+pub front-mark : (byte : ℕ) (tail : List ℕ) → is_punctuator byte ≡ true → front (byte ∷ tail) ≡ Some (Token kind.Punctuator 1)
 front-mark byte tail is =
     let no_name : begins_name byte ≡ false = grind (arith, nat_tests) in
-    cond-false (begins_name byte) _ _ no_name ∙ cond-true (is_mark byte) _ _ is
+    cond-false (begins_name byte) _ _ no_name ∙ cond-true (is_punctuator byte) _ _ is
 
 pub front-punctuator : (text tail : List ℕ) → IsPunctuator text → front (text ++ tail) ≡ Some (Token kind.Punctuator (length text))
 front-punctuator text tail (inl is) = ap (λ xs. front (xs ++ tail)) is.2 ∙ front-mark is.0 tail is.1 ∙ ap (λ xs. Some (Token kind.Punctuator (length xs))) (sym is.2)
@@ -143,12 +143,12 @@ blanks-integer text tail is =
     let b = integer_begins is.minus is.whole is.is_minus is.is_whole in
     ap (λ xs. blanks (xs ++ tail)) (is.parts ∙ b.2) ∙ blanks_number b.0 (b.1 ++ tail) b.3
 
-blanks_mark : (byte : ℕ) (rest : List ℕ) → is_mark byte ≡ true → blanks (byte ∷ rest) ≡ 0
+blanks_mark : (byte : ℕ) (rest : List ℕ) → is_punctuator byte ≡ true → blanks (byte ∷ rest) ≡ 0
 blanks_mark byte rest is =
     let above : 32 < byte = grind (arith, nat_tests) in
     let small : byte < 128 = grind (arith, nat_tests) in
-    let no_hash : byte ≢ 35 = λ e. (let h = ap is_mark (sym e) ∙ is in cc) in
-    let no_comma : byte ≢ 44 = λ e. (let h = ap is_mark (sym e) ∙ is in cc) in
+    let no_hash : byte ≢ 35 = λ e. (let h = ap is_punctuator (sym e) ∙ is in cc) in
+    let no_comma : byte ≢ 44 = λ e. (let h = ap is_punctuator (sym e) ∙ is in cc) in
     no_blank byte rest above no_hash no_comma small
 
 pub blanks-punctuator : (text tail : List ℕ) → IsPunctuator text → blanks (text ++ tail) ≡ 0

@@ -1,6 +1,6 @@
 -- The texts of each kind of token.
 use Rattle.std.proofs.Common.{◌≡◌, ℕ, ◌⊎◌, true, List, [], ◌∷◌, ◌++◌}
-use Rattle.gql_lex.specs.Classes.{is_mark}
+use Rattle.gql_lex.specs.Classes.{is_punctuator}
 use Rattle.gql_lex.specs.Longest.{IsName, IsMinus, IsWhole}
 use Rattle.gql_lex.specs.StringTexts.{IsQuoted, IsBlock}
 use Rattle.gql_lex.specs.declared.token.TokenKind.{TokenKind}
@@ -14,9 +14,9 @@ pub record IsInteger (text : List ℕ) : Type 0 where
   pub is_minus : IsMinus minus
   pub is_whole : IsWhole whole
 
--- a mark, or `...`
+-- a punctuator of one byte, or `...`
 abbrev pub IsPunctuator : List ℕ → Type 0
-IsPunctuator text = ((byte : ℕ) × (is_mark byte ≡ true) × (text ≡ byte ∷ [])) ⊎ (text ≡ 46 ∷ 46 ∷ 46 ∷ [])
+IsPunctuator text = ((byte : ℕ) × (is_punctuator byte ≡ true) × (text ≡ byte ∷ [])) ⊎ (text ≡ 46 ∷ 46 ∷ 46 ∷ [])
 
 -- the text is right for its kind
 abbrev pub IsTextOf : TokenKind → List ℕ → Type 0

@@ -12,7 +12,7 @@ use Rattle.gql_lex.specs.declared.scan.Found.{Found}
 use Rattle.gql_lex.specs.declared.scan.Found.TheVariants.{Token, Wrong}
 use Rattle.gql_lex.specs.declared.token.TokenKind.{TokenKind}
 use Rattle.gql_lex.specs.declared.token.TokenKind.TheVariants as kind
-use Rattle.gql_lex.specs.Classes.{begins_name, continues_name, is_mark}
+use Rattle.gql_lex.specs.Classes.{begins_name, continues_name, is_punctuator}
 use Rattle.gql_lex.specs.Numbers.{digits, minus_len, whole_len, integer_len, number_len, runs_on, number}
 use Rattle.gql_lex.specs.Runs.{run_len}
 use Rattle.gql_lex.specs.Strings.{closed_quoted, quoted, allowed_len, closed_block, block, string}
@@ -49,7 +49,7 @@ name_sound byte rest is =
     let lies = Lies-name (byte ∷ rest) kind.Name (prefix_len continues_name rest) (omega arith) is refl (prefix_len-le-length continues_name rest) in
     record { some = lies.0; fits = lies.1; first = grind (arith, nat_tests); last = lies.2; right = name-is byte rest is }
 
-mark_sound : (byte : ℕ) (rest : List ℕ) → is_mark byte ≡ true → IsSound (byte ∷ rest) kind.Punctuator 1
+mark_sound : (byte : ℕ) (rest : List ℕ) → is_punctuator byte ≡ true → IsSound (byte ∷ rest) kind.Punctuator 1
 mark_sound byte rest is =
     let small : byte < 128 = grind (arith, nat_tests) in
     record { some = lit< tt; fits = omega arith; first = small; last = small; right = inl (byte, is, refl) }
@@ -171,7 +171,7 @@ front_sound [] = tt
 front_sound (byte ∷ rest) =
     let P = SoundOption (byte ∷ rest) in
     cond_both (begins_name byte) _ _ P (name_sound byte rest)
-    (λ _. cond_both (is_mark byte) _ _ P (mark_sound byte rest)
+    (λ _. cond_both (is_punctuator byte) _ _ P (mark_sound byte rest)
     (λ _. cond_both (starts_with nat_eq (byte ∷ rest) (46 ∷ 46 ∷ 46 ∷ [])) _ _ P (dots_sound (byte ∷ rest))
     (λ _. cond_both (byte == 45 || is_ascii_digit byte) _ _ P (λ is. number_sound (byte ∷ rest) (grind (arith, nat_tests)))
     (λ _. cond_both (byte == 34) _ _ P (λ is. subst (λ b. Sound (b ∷ rest) (string rest)) (sym (eqb-true byte 34 is)) (string_sound rest)) (λ _. tt)))))

@@ -30,8 +30,8 @@ begins_name byte = byte == 95 || is_ascii_alphabetic byte
 abbrev pub continues_name : ℕ → Bool
 continues_name byte = byte == 95 || is_ascii_alphanumeric byte
 
--- ! $ & ( ) : = @ [ ] { | }
-abbrev pub is_mark : ℕ → Bool
-is_mark byte =
+-- the punctuators of one byte: ! $ & ( ) : = @ [ ] { | }
+abbrev pub is_punctuator : ℕ → Bool
+is_punctuator byte =
     byte == 33 || (byte == 36 || (byte == 38 || (byte == 40 || (byte == 41 || (byte == 58 || (byte == 61
     || (byte == 64 || (byte == 91 || (byte == 93 || (byte == 123 || (byte == 124 || byte == 125)))))))))))

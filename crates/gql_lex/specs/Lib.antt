@@ -5,8 +5,8 @@ pub mod Runs
 pub mod Numbers
 pub mod Longest
 pub mod Strings
-pub mod Found
 pub mod StringTexts
 pub mod Front
 pub mod Tokens
 pub mod TokenPlaces
+pub mod inner

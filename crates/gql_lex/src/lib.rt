@@ -19,8 +19,6 @@ mod refusal;
 mod run;
 mod scan;
 mod string;
-#[cfg(test)]
-mod tests;
 mod token;
 
 pub use laws::{

@@ -1,7 +1,7 @@
 //! Numbers.
 
 ghost use Rattle.std.specs.Prelude.{◌≡◌, ℕ, ◌≤◌, ◌+◌, length};
-ghost use Rattle.gql_lex.specs.Found.{Lies};
+ghost use Rattle.gql_lex.specs.inner.Found.{Lies};
 ghost use Rattle.gql_lex.specs.Numbers.{digits, minus_len, whole_len, fraction_len, sign_len, power_len, exponent_len, integer_len, decimal_len, number_len, runs_on, number};
 
 use crate::scan::{Fault, Found, begins_name};

@@ -11,19 +11,19 @@ use thiserror::Error;
 #[derive(Clone, Copy, Debug, PartialEq, Eq, Error)]
 pub enum LexRefusal {
     /// A character that begins no token, or that stands nowhere.
-    #[error("a character that begins no token, at {}:{}", .0.line, .0.column)]
+    #[error("the character at {}:{} belongs to no token", .0.line, .0.column)]
     BadCharacter(Spot),
     /// A backslash in a quoted string that begins no escape, or an escape of half a surrogate pair.
-    #[error("a bad escape, at {}:{}", .0.line, .0.column)]
+    #[error("the escape at {}:{} stands for no character", .0.line, .0.column)]
     BadEscape(Spot),
     /// The first quote of a string that doesn't end.
-    #[error("a string that doesn't end, at {}:{}", .0.line, .0.column)]
+    #[error("the string at {}:{} doesn't end", .0.line, .0.column)]
     OpenString(Spot),
     /// A digit or `-` that begins no number, or a number that runs into what follows it.
-    #[error("a bad number, at {}:{}", .0.line, .0.column)]
+    #[error("the number at {}:{} is not well formed", .0.line, .0.column)]
     BadNumber(Spot),
     /// A number with a fraction or an exponent.
-    #[error("a number with a fraction or an exponent, at {}:{}", .0.line, .0.column)]
+    #[error("the number at {}:{} has a fraction or an exponent", .0.line, .0.column)]
     FloatToken(Spot),
 }
 

@@ -1,9 +1,9 @@
 //! What stands at the front of a text that no blank begins.
 
 ghost use Rattle.std.specs.Prelude.{◌≡◌, ℕ, ◌≤◌, ◌<◌, ◌^◌, ◌+◌, length, IfSome};
-ghost use Rattle.gql_lex.specs.Found.{Lies, BeginsPlain};
+ghost use Rattle.gql_lex.specs.inner.Found.{Lies, BeginsPlain};
 ghost use Rattle.std.specs.List.{prefix_len};
-ghost use Rattle.gql_lex.specs.Classes.{begins_name, continues_name, is_mark};
+ghost use Rattle.gql_lex.specs.Classes.{begins_name, continues_name, is_punctuator};
 ghost use Rattle.gql_lex.specs.Front.{front};
 ghost use Rattle.gql_lex.specs.Tokens.{refusal};
 
@@ -45,7 +45,7 @@ pub(crate) fn front(text: &[u8]) -> Option<Found>
     if begins_name(*first) {
         return Some(Found::Token(TokenKind::Name, 1 + name_len(rest)));
     }
-    if is_mark(*first) {
+    if is_punctuator(*first) {
         return Some(Found::Token(TokenKind::Punctuator, 1));
     }
     if text.starts_with(b"...") {
@@ -61,8 +61,8 @@ pub(crate) fn front(text: &[u8]) -> Option<Found>
 }
 
 /// A punctuator of one byte.
-fn is_mark(byte: u8) -> bool
-    ensures { result ≡ is_mark byte }
+fn is_punctuator(byte: u8) -> bool
+    ensures { result ≡ is_punctuator byte }
 {
     byte == b'!'
         || byte == b'$'

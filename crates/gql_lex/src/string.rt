@@ -1,7 +1,7 @@
 //! Quoted strings and block strings.
 
 ghost use Rattle.std.specs.Prelude.{◌≡◌, ℕ, ◌≤◌, ◌+◌, ◌<◌, ◌^◌, ◌∷◌, length};
-ghost use Rattle.gql_lex.specs.Found.{Lies, Encloses};
+ghost use Rattle.gql_lex.specs.inner.Found.{Lies, Encloses};
 ghost use Rattle.gql_lex.specs.Strings.{fault_of, closed_quoted, quoted, allowed_len, closed_block, block, string};
 
 use crate::run::{Pieces, is_forbidden, run_len};

@@ -6,9 +6,9 @@ use Rattle.std.specs.List.{AllByRecursion as Each}
 use Rattle.gql_tree.specs.declared.Spot.{Spot}
 use Rattle.gql_lex.specs.Tokens.{Lexeme}
 use Rattle.gql_doc.specs.StringValue.{string_value}
-use Rattle.gql_doc.specs.Marks.{is_string, is_number, is_fragment_name, is_word, is_operation_type}
+use Rattle.gql_doc.specs.Terminals.{is_string, is_number, is_fragment_name, is_word, is_operation_type}
 use Rattle.gql_doc.specs.Phrase.{Phrase, token, returns, ◌>>=◌, either, never, many, some, optional, listed}
-use Rattle.gql_doc.specs.Grammar.{mark, name, between, word_value, variable, simple_value, argument, list_value, object_value, value, arguments, directive, directives, variable_definitions, aliased, alias_by, name_by, field, spread, condition_text, inline_spot, type_condition, inline_fragment, any_selection, selection_set, selections, operation_kind, name_text, short_operation, operation_definition, fragment_definition, any_definition, IsDocument}
+use Rattle.gql_doc.specs.Grammar.{punctuator, name, between, word_value, variable, simple_value, argument, list_value, object_value, value, arguments, directive, directives, variable_definitions, aliased, alias_by, name_by, field, spread, condition_text, inline_spot, type_condition, inline_fragment, any_selection, selection_set, selections, operation_kind, name_text, short_operation, operation_definition, fragment_definition, any_definition, IsDocument}
 use Rattle.gql_model.specs.declared.syntax.Literal.{Literal, out-Literal}
 use Rattle.gql_model.specs.declared.syntax.Literal.TheVariants.{outs-Variable, outs-Int, outs-Text, outs-Bool, outs-Null, outs-Enum, outs-List, outs-Object}
 use Rattle.gql_model.specs.declared.syntax.Literal.TheVariants as literal
@@ -87,11 +87,11 @@ module _ (P : Spot → Type 0) (L : List ℕ → Type 0) where
   spot_of : (test : Lexeme → Bool) → Gives (token test) (λ t. P t.spot)
   spot_of test tokens it fine is = (token_of test tokens it fine is).0.0
 
-  between_of : {A : Type 0} (opening : ℕ) (inside : Phrase A) (closing : ℕ) (Q : A → Type 0) → Gives inside Q → Gives (between opening inside closing) (λ x. P x.0 × Q x.1)
+  between_of : {A : Type 0} (opening : List ℕ) (inside : Phrase A) (closing : List ℕ) (Q : A → Type 0) → Gives inside Q → Gives (between opening inside closing) (λ x. P x.0 × Q x.1)
   between_of {A} opening inside closing Q one =
-      behind (mark opening) (λ first. inside >>= λ x. mark closing >>= λ _. returns (first.spot, x)) (λ t. P t.spot) (λ x. P x.0 × Q x.1) (spot_of _) (λ first at.
-      behind inside (λ x. mark closing >>= λ _. returns (first.spot, x)) Q (λ x. P x.0 × Q x.1) one (λ x h.
-      behind (mark closing) (λ _. returns (first.spot, x)) Anything (λ x. P x.0 × Q x.1) (anything _) (λ last _. meaning (first.spot, x) (λ x. P x.0 × Q x.1) (at, h))))
+      behind (punctuator opening) (λ first. inside >>= λ x. punctuator closing >>= λ _. returns (first.spot, x)) (λ t. P t.spot) (λ x. P x.0 × Q x.1) (spot_of _) (λ first at.
+      behind inside (λ x. punctuator closing >>= λ _. returns (first.spot, x)) Q (λ x. P x.0 × Q x.1) one (λ x h.
+      behind (punctuator closing) (λ _. returns (first.spot, x)) Anything (λ x. P x.0 × Q x.1) (anything _) (λ last _. meaning (first.spot, x) (λ x. P x.0 × Q x.1) (at, h))))
 
   -- ---- values
 
@@ -116,7 +116,7 @@ module _ (P : Spot → Type 0) (L : List ℕ → Type 0) where
   variable_gives : (constant : Bool) → Gives (variable constant) LiteralIs
   variable_gives true = none LiteralIs
   variable_gives false =
-      behind (mark 36) (λ dollar. name >>= λ word. returns (literal.Variable word.text dollar.spot)) Anything LiteralIs (anything _) (λ dollar _.
+      behind (punctuator (codes "$")) (λ dollar. name >>= λ word. returns (literal.Variable word.text dollar.spot)) Anything LiteralIs (anything _) (λ dollar _.
       behind name (λ word. returns (literal.Variable word.text dollar.spot)) Anything LiteralIs (anything _) (λ word _.
       meaning (literal.Variable word.text dollar.spot) LiteralIs (subst ValueIs (sym (outs-Variable word.text dollar.spot)) tt)))
 
@@ -147,17 +147,17 @@ module _ (P : Spot → Type 0) (L : List ℕ → Type 0) where
   argument_gives : (inner : Phrase Literal) → Gives inner LiteralIs → Gives (argument inner) ArgumentIs
   argument_gives inner one =
       let made : Lexeme → Literal → Argument = λ word it. roll-Argument (record { name = word.text; value = it; spot = word.spot }) in
-      behind name (λ word. mark 58 >>= λ _. inner >>= λ it. returns (made word it)) Anything ArgumentIs (anything _) (λ word _.
-      behind (mark 58) (λ _. inner >>= λ it. returns (made word it)) Anything ArgumentIs (anything _) (λ colon _.
+      behind name (λ word. punctuator (codes ":") >>= λ _. inner >>= λ it. returns (made word it)) Anything ArgumentIs (anything _) (λ word _.
+      behind (punctuator (codes ":")) (λ _. inner >>= λ it. returns (made word it)) Anything ArgumentIs (anything _) (λ colon _.
       behind inner (λ it. returns (made word it)) LiteralIs ArgumentIs one (λ it h.
       meaning (made word it) ArgumentIs (subst (λ (a : AnyArgument). LiteralIs a.value) (sym (out-roll-Argument (record { name = word.text; value = it; spot = word.spot }))) h))))
 
   list_gives : (item : Phrase Literal) → Gives (list_value item) LiteralIs
-  list_gives item = behind (between 91 (many item) 93) (λ list. returns (literal.List list.1 list.0)) Anything LiteralIs (anything _) (λ list _. meaning (literal.List list.1 list.0) LiteralIs (subst ValueIs (sym (outs-List list.1 list.0)) tt))
+  list_gives item = behind (between (codes "[") (many item) (codes "]")) (λ list. returns (literal.List list.1 list.0)) Anything LiteralIs (anything _) (λ list _. meaning (literal.List list.1 list.0) LiteralIs (subst ValueIs (sym (outs-List list.1 list.0)) tt))
 
   object_gives : (inner : Phrase Literal) → Gives (object_value inner) LiteralIs
   object_gives inner =
-      behind (between 123 (many (argument inner)) 125) (λ object. returns (literal.Object object.1 object.0)) Anything LiteralIs (anything _)
+      behind (between (codes "{") (many (argument inner)) (codes "}")) (λ object. returns (literal.Object object.1 object.0)) Anything LiteralIs (anything _)
       (λ object _. meaning (literal.Object object.1 object.0) LiteralIs (subst ValueIs (sym (outs-Object object.1 object.0)) tt))
 
   value_gives : (constant : Bool) (depth : ℕ) → Gives (value constant depth) LiteralIs
@@ -168,15 +168,15 @@ module _ (P : Spot → Type 0) (L : List ℕ → Type 0) where
 
   arguments_give : (constant : Bool) (depth : ℕ) → Gives (arguments constant depth) (Each ArgumentIs)
   arguments_give constant depth =
-      listed_of (between 40 (some (argument (value constant depth))) 41 >>= λ all. returns all.1) ArgumentIs
-      (behind (between 40 (some (argument (value constant depth))) 41) (λ all. returns all.1) (λ x. P x.0 × Each ArgumentIs x.1) (Each ArgumentIs)
-      (between_of 40 (some (argument (value constant depth))) 41 (Each ArgumentIs) (some_of (argument (value constant depth)) ArgumentIs (argument_gives (value constant depth) (value_gives constant depth))))
+      listed_of (between (codes "(") (some (argument (value constant depth))) (codes ")") >>= λ all. returns all.1) ArgumentIs
+      (behind (between (codes "(") (some (argument (value constant depth))) (codes ")")) (λ all. returns all.1) (λ x. P x.0 × Each ArgumentIs x.1) (Each ArgumentIs)
+      (between_of (codes "(") (some (argument (value constant depth))) (codes ")") (Each ArgumentIs) (some_of (argument (value constant depth)) ArgumentIs (argument_gives (value constant depth) (value_gives constant depth))))
       (λ all h. meaning all.1 (Each ArgumentIs) h.1))
 
   directive_gives : (constant : Bool) (depth : ℕ) → Gives (directive constant depth) DirectiveIs
   directive_gives constant depth =
       let made : Lexeme → Lexeme → List Argument → DirectiveUse = λ at word given. record { name = word.text; arguments = given; spot = at.spot } in
-      behind (mark 64) (λ at. name >>= λ word. arguments constant depth >>= λ given. returns (made at word given)) Anything DirectiveIs (anything _) (λ at _.
+      behind (punctuator (codes "@")) (λ at. name >>= λ word. arguments constant depth >>= λ given. returns (made at word given)) Anything DirectiveIs (anything _) (λ at _.
       behind name (λ word. arguments constant depth >>= λ given. returns (made at word given)) Anything DirectiveIs (anything _) (λ word _.
       behind (arguments constant depth) (λ given. returns (made at word given)) (Each ArgumentIs) DirectiveIs (arguments_give constant depth) (λ given h.
       meaning (made at word given) DirectiveIs h)))
@@ -246,8 +246,8 @@ module _ (P : Spot → Type 0) (L : List ℕ → Type 0) where
 
     selection_gives : (depth : ℕ) (inner : Phrase (List Selection)) → Gives inner (Each Below) → Gives (any_selection depth inner) HereIs
     selection_gives depth inner one =
-        one_of (field depth inner) (mark 46 >>= λ dots. either (spread depth) (inline_fragment depth inner dots.spot)) HereIs (field_gives depth inner one)
-        (behind (mark 46) (λ dots. either (spread depth) (inline_fragment depth inner dots.spot)) (λ t. P t.spot) HereIs (spot_of _)
+        one_of (field depth inner) (punctuator (codes "...") >>= λ dots. either (spread depth) (inline_fragment depth inner dots.spot)) HereIs (field_gives depth inner one)
+        (behind (punctuator (codes "...")) (λ dots. either (spread depth) (inline_fragment depth inner dots.spot)) (λ t. P t.spot) HereIs (spot_of _)
         (λ dots at. one_of (spread depth) (inline_fragment depth inner dots.spot) HereIs (spread_gives depth) (inline_gives depth inner dots.spot at one)))
 
   -- what is so of a selection as deep as one looks
@@ -257,13 +257,13 @@ module _ (P : Spot → Type 0) (L : List ℕ → Type 0) where
 
   set_gives : (n depth : ℕ) → Gives (selection_set depth) (λ x. P x.0 × Each (SelectionIs n) x.1)
   set_gives n zero = none (λ x. P x.0 × Each (SelectionIs n) x.1)
-  set_gives zero (suc depth) = between_of 123 (some (any_selection depth (selection_set depth >>= λ set. returns set.1))) 125 (Each (SelectionIs zero)) (λ tokens it fine is. each_nothing it)
+  set_gives zero (suc depth) = between_of (codes "{") (some (any_selection depth (selection_set depth >>= λ set. returns set.1))) (codes "}") (Each (SelectionIs zero)) (λ tokens it fine is. each_nothing it)
     where
       each_nothing : (xs : List Selection) → Each (SelectionIs zero) xs
       each_nothing [] = tt
       each_nothing (x ∷ xs) = (tt, each_nothing xs)
   set_gives (suc n) (suc depth) =
-      between_of 123 (some (any_selection depth (selection_set depth >>= λ set. returns set.1))) 125 (Each (SelectionIs (suc n)))
+      between_of (codes "{") (some (any_selection depth (selection_set depth >>= λ set. returns set.1))) (codes "}") (Each (SelectionIs (suc n)))
       (some_of (any_selection depth (selection_set depth >>= λ set. returns set.1)) (SelectionIs (suc n))
       (selection_gives (SelectionIs n) depth (selection_set depth >>= λ set. returns set.1)
       (behind (selection_set depth) (λ set. returns set.1) (λ x. P x.0 × Each (SelectionIs n) x.1) (Each (SelectionIs n)) (set_gives n depth) (λ set h. meaning set.1 (Each (SelectionIs n)) h.1))))

@@ -9,7 +9,7 @@ use Rattle.gql_lex.specs.Tokens.{Lexeme}
 use Rattle.gql_lex.specs.TokenPlaces.{IsSliceOf}
 use Rattle.gql_lex.proofs.TokenPlaces.{tokens-slices}
 use Rattle.gql_doc.specs.StringValue.{string_value}
-use Rattle.gql_doc.specs.Marks.{is_string}
+use Rattle.gql_doc.specs.Terminals.{is_string}
 use Rattle.gql_doc.proofs.Meant.{values-utf8}
 use Rattle.gql_doc.specs.Answer.{Is, most_bytes}
 use Rattle.gql_model.specs.declared.syntax.Document.{Document}

@@ -1,9 +1,9 @@
 use Rattle.std.proofs.Common.{map, ◌∙◌, ap}
 use Rattle.gql_lex.specs.Tokens.{lexeme}
-use Rattle.gql_doc.specs.Left.{left}
+use Rattle.gql_doc.specs.inner.Left.{left}
 use Rattle.gql_doc.specs.Nesting.{limit}
-use Rattle.gql_doc.specs.Outcomes.{refusal_of}
-use Rattle.gql_doc.specs.Reading.{document}
+use Rattle.gql_doc.specs.inner.Outcomes.{refusal_of}
+use Rattle.gql_doc.specs.inner.Reading.{document}
 use Rattle.gql_doc.proofs.Parsed.{Fails-outcome}
 use Rattle.gql_doc.proofs.parsing.read.Goals as goal
 

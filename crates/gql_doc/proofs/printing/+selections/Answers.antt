@@ -1,4 +1,4 @@
-use Rattle.std.proofs.Common.{flat_map, ap, sym}
+use Rattle.std.proofs.Common.{codes, flat_map, ap, sym}
 use Rattle.std.proofs.lemmas.Result.{on_ok_weaker}
 use Rattle.gql_lex.specs.declared.token.TokenKind.TheVariants as kind
 use Rattle.gql_doc.specs.Printed.{enclosed, printed_selection}
@@ -15,10 +15,10 @@ push_field-returns t c =
     (wrote c.in_ok-push_word.ensures
     (wrote c.in_ok-push_arguments.ensures
     (wrote c.in_ok-push_directives.ensures
-    (list_written printed_selection 123 it.selections 125
+    (list_written printed_selection (codes "{") it.selections (codes "}")
     (λ none. let full = c.is_empty.ensures.1 none in cc)
     (named
-    (ap (λ all. enclosed 123 (flat_map printed_selection all) 125) c.as_slice.ensures)
+    (ap (λ all. enclosed (codes "{") (flat_map printed_selection all) (codes "}")) c.as_slice.ensures)
     (wrote (c.in_ok-push_piece.ensures kind.Punctuator) (wrote c.in_ok-push_selections.ensures (h kind.Punctuator))))))))))
     c.push_piece-2.ensures
 
@@ -31,6 +31,6 @@ push_inline-returns t c =
     (wrote c.in_ok-push_condition.ensures
     (wrote c.in_ok-push_directives.ensures
     (named
-    (ap (λ all. enclosed 123 (flat_map printed_selection all) 125) c.as_slice.ensures)
+    (ap (λ all. enclosed (codes "{") (flat_map printed_selection all) (codes "}")) c.as_slice.ensures)
     (wrote (c.in_ok-push_piece-2.ensures kind.Punctuator) (wrote c.in_ok-push_selections.ensures (h kind.Punctuator))))))))
     c.push_piece-3.ensures

@@ -1,4 +1,4 @@
-use Rattle.std.proofs.Common.{◌∙◌, flat_map, ap, sym}
+use Rattle.std.proofs.Common.{codes, ◌∙◌, flat_map, ap, sym}
 use Rattle.std.proofs.lemmas.Result.{on_ok_weaker}
 use Rattle.gql_lex.specs.declared.token.TokenKind.TheVariants as kind
 use Rattle.gql_doc.specs.Printed.{enclosed, printed_value, printed_argument}
@@ -40,7 +40,7 @@ pub push_value-returns-in_ok-push_items-in-List : goal.push_value-returns-in_ok-
 push_value-returns-in_ok-push_items-in-List t c =
     on_ok_weaker c.push_piece-in-List-2.result
     (λ h. named
-    (ap (λ items. enclosed 91 (flat_map printed_value items) 93) c.as_slice.ensures ∙ sym (ap printed_value c.in-List.is ∙ printed_List _ _))
+    (ap (λ items. enclosed (codes "[") (flat_map printed_value items) (codes "]")) c.as_slice.ensures ∙ sym (ap printed_value c.in-List.is ∙ printed_List _ _))
     (wrote (c.in_ok-push_piece-in-List.ensures kind.Punctuator) (wrote c.in_ok-push_items-in-List.ensures (h kind.Punctuator))))
     c.push_piece-in-List-2.ensures
 
@@ -48,6 +48,6 @@ pub push_value-returns-in_ok-push_members-in-Object : goal.push_value-returns-in
 push_value-returns-in_ok-push_members-in-Object t c =
     on_ok_weaker c.push_piece-in-Object-2.result
     (λ h. named
-    (ap (λ members. enclosed 123 (flat_map printed_argument members) 125) c.as_slice-in-Object.ensures ∙ sym (ap printed_value c.in-Object.is ∙ printed_Object _ _))
+    (ap (λ members. enclosed (codes "{") (flat_map printed_argument members) (codes "}")) c.as_slice-in-Object.ensures ∙ sym (ap printed_value c.in-Object.is ∙ printed_Object _ _))
     (wrote (c.in_ok-push_piece-in-Object.ensures kind.Punctuator) (wrote c.in_ok-push_members-in-Object.ensures (h kind.Punctuator))))
     c.push_piece-in-Object-2.ensures

@@ -1,5 +1,6 @@
 use Rattle.std.proofs.Common.{flat_map, take, string_bytes}
-use Rattle.gql_doc.specs.Printed.{Adds, printed_argument, printed_value}
+use Rattle.gql_doc.specs.inner.Writing.{Adds}
+use Rattle.gql_doc.specs.Printed.{printed_argument, printed_value}
 use Rattle.gql_doc.proofs.printing.+values.Given as goal
 
 abbrev pub invariant-push_items-loop-item : goal.invariant-push_items-loop-item

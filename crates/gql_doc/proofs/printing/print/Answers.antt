@@ -1,7 +1,8 @@
 use Rattle.std.proofs.Common.{◌∙◌, ◌++◌, flat_map, string_bytes, arith}
 use Rattle.std.specs.Prelude.{string_len}
 use Rattle.std.proofs.lemmas.List.{take_all}
-use Rattle.gql_doc.specs.Printed.{printed, spaced_out, printed_definition}
+use Rattle.gql_doc.specs.inner.Writing.{spaced_out}
+use Rattle.gql_doc.specs.Printed.{printed, printed_definition}
 use Rattle.gql_doc.proofs.Writing.{popped}
 use Rattle.gql_doc.proofs.printing.print.Goals as goal
 

@@ -1,5 +1,6 @@
 use Rattle.std.proofs.Common.{flat_map, take, string_bytes}
-use Rattle.gql_doc.specs.Printed.{Adds, printed_directive}
+use Rattle.gql_doc.specs.inner.Writing.{Adds}
+use Rattle.gql_doc.specs.Printed.{printed_directive}
 use Rattle.gql_doc.proofs.printing.push_directives.Given as goal
 
 abbrev pub invariant-loop-directive : goal.invariant-loop-directive

@@ -1,4 +1,4 @@
-use Rattle.std.proofs.Common.{◌∙◌, flat_map, ap, arith}
+use Rattle.std.proofs.Common.{codes, ◌∙◌, flat_map, ap, arith}
 use Rattle.std.proofs.lemmas.Result.{on_ok_weaker}
 use Rattle.std.proofs.lemmas.List.{take_all}
 use Rattle.gql_lex.specs.declared.token.TokenKind.TheVariants as kind
@@ -10,9 +10,9 @@ pub returns : goal.returns
 returns c =
     let all = take_all c.loop-variable.variable-index c.as_slice-variable-items.result.now (omega arith) ∙ c.as_slice-variable-items.ensures in
     on_ok_weaker c.push_piece-2.result
-    (λ h. list_written printed_variable 40 c.args.variables.now 41
+    (λ h. list_written printed_variable (codes "(") c.args.variables.now (codes ")")
     (λ none. let full = c.is_empty.ensures.1 none in cc)
     (named
-    (ap (λ xs. enclosed 40 (flat_map printed_variable xs) 41) all)
+    (ap (λ xs. enclosed (codes "(") (flat_map printed_variable xs) (codes ")")) all)
     (wrote (c.in_ok-push_piece.ensures kind.Punctuator) (wrote c.loop-variable.invariant (h kind.Punctuator)))))
     c.push_piece-2.ensures

@@ -1,5 +1,6 @@
 use Rattle.std.proofs.Common.{flat_map, take, string_bytes}
-use Rattle.gql_doc.specs.Printed.{Adds, printed_variable}
+use Rattle.gql_doc.specs.inner.Writing.{Adds}
+use Rattle.gql_doc.specs.Printed.{printed_variable}
 use Rattle.gql_doc.proofs.printing.push_variables.Given as goal
 
 abbrev pub invariant-loop-variable : goal.invariant-loop-variable

@@ -1,7 +1,7 @@
 use Rattle.std.proofs.Common.{◌≡◌, true, [], ◌∷◌, sym, ◌∙◌, subst}
 use Rattle.std.specs.Prelude.{nat_eq}
 use Rattle.std.specs.List.{starts_with}
-use Rattle.gql_lex.specs.Found.{Encloses}
+use Rattle.gql_lex.specs.inner.Found.{Encloses}
 use Rattle.gql_lex.proofs.Found.{Lies-quoted}
 use Rattle.gql_lex.proofs.string.quoted.Goals as goal
 

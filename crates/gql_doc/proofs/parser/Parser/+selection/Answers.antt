@@ -1,7 +1,7 @@
 use Rattle.std.proofs.Common.{◌∙◌, sym}
 use Rattle.std.proofs.lemmas.Result.{err_from_is_err_and}
-use Rattle.gql_doc.specs.Left.{left}
-use Rattle.gql_doc.specs.Reading.{begins_selection, any_selection, selections}
+use Rattle.gql_doc.specs.inner.Left.{left}
+use Rattle.gql_doc.specs.inner.Reading.{begins_selection, any_selection, selections}
 use Rattle.gql_doc.proofs.Loops.{with_front-turn, with_front-stop, with_front-end, with_front-last}
 use Rattle.gql_doc.proofs.parser.Parser.+selection.Goals as goal
 

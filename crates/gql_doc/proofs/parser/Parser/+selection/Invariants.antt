@@ -1,6 +1,6 @@
 use Rattle.std.proofs.Common.{◌≡◌, ◌+◌, ◌-◌, ◌*◌}
-use Rattle.gql_doc.specs.Left.{left}
-use Rattle.gql_doc.specs.Reading.{many, many_at, begins_selection, any_selection, selections}
+use Rattle.gql_doc.specs.inner.Left.{left}
+use Rattle.gql_doc.specs.inner.Reading.{many, many_at, begins_selection, any_selection, selections}
 use Rattle.gql_doc.proofs.Loops.{with_front}
 use Rattle.gql_doc.proofs.parser.Parser.+selection.Given as goal
 

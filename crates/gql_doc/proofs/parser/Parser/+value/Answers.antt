@@ -1,8 +1,8 @@
 use Rattle.std.proofs.Common.{◌∙◌, sym}
 use Rattle.std.proofs.lemmas.Result.{err_from_is_err_and}
-use Rattle.gql_doc.specs.Left.{left}
-use Rattle.gql_doc.specs.Marks.{is_name}
-use Rattle.gql_doc.specs.Reading.{value, argument, begins_value}
+use Rattle.gql_doc.specs.inner.Left.{left}
+use Rattle.gql_doc.specs.Terminals.{is_name}
+use Rattle.gql_doc.specs.inner.Reading.{value, argument, begins_value}
 use Rattle.gql_doc.proofs.Loops.{with_front-turn, with_front-stop, with_front-end, with_front-last}
 use Rattle.gql_doc.proofs.parser.Parser.+value.Goals as goal
 
@@ -17,8 +17,8 @@ values-returns-in_err-value t c =
 pub values-returns : goal.values-returns
 values-returns t c = with_front-last begins_value (value c.args.constant c.args.room) c.loop.values c.count-end.result c.loop.counter (left c.loop.self) _ c.loop-test.false c.loop.invariant
 
-pub members-returns-then-not-next_is_name : goal.members-returns-then-not-next_is_name
-members-returns-then-not-next_is_name t c = with_front-end is_name (argument (value c.args.constant c.args.room)) c.loop.members c.count-end.result c.loop.counter (left c.loop.self) _ c.loop-test.true (sym c.next_is_name.ensures ∙ c.if-not-next_is_name.true) c.loop.invariant
+pub members-returns-then-not-next_is : goal.members-returns-then-not-next_is
+members-returns-then-not-next_is t c = with_front-end is_name (argument (value c.args.constant c.args.room)) c.loop.members c.count-end.result c.loop.counter (left c.loop.self) _ c.loop-test.true (sym c.next_is.ensures ∙ c.if-not-next_is.true) c.loop.invariant
 
 pub members-returns : goal.members-returns
 members-returns t c = with_front-last is_name (argument (value c.args.constant c.args.room)) c.loop.members c.count-end.result c.loop.counter (left c.loop.self) _ c.loop-test.false c.loop.invariant
@@ -26,7 +26,7 @@ members-returns t c = with_front-last is_name (argument (value c.args.constant c
 pub members-returns-in_err-argument : goal.members-returns-in_err-argument
 members-returns-in_err-argument t c =
     let p = err_from_is_err_and c.from_residual.result c.from_residual.ensures.1 in
-    rw (p.1, p.2) (with_front-stop is_name (argument (value c.args.constant c.args.room)) c.loop.members c.count-end.result c.loop.counter (left c.loop.self) (left c.argument.new.self) c.in_err-argument.field-0.0 _ c.loop-test.true (sym c.next_is_name.ensures ∙ c.if-not-next_is_name.false) c.in_err-argument.ensures c.loop.invariant)
+    rw (p.1, p.2) (with_front-stop is_name (argument (value c.args.constant c.args.room)) c.loop.members c.count-end.result c.loop.counter (left c.loop.self) (left c.argument.new.self) c.in_err-argument.field-0.0 _ c.loop-test.true (sym c.next_is.ensures ∙ c.if-not-next_is.false) c.in_err-argument.ensures c.loop.invariant)
 
 pub values-loop-preserved : goal.values-loop-preserved
 values-loop-preserved t c =
@@ -34,4 +34,4 @@ values-loop-preserved t c =
 
 pub members-loop-preserved : goal.members-loop-preserved
 members-loop-preserved t c =
-    rw c.in_ok-push.ensures.ok (with_front-turn is_name (argument (value c.args.constant c.args.room)) c.loop.members c.count-end.result c.loop.counter (left c.loop.self) _ (left c.argument.new.self) _ c.loop-test.true (sym c.next_is_name.ensures ∙ c.if-not-next_is_name.false) c.in_ok-argument.ensures c.loop.invariant)
+    rw c.in_ok-push.ensures.ok (with_front-turn is_name (argument (value c.args.constant c.args.room)) c.loop.members c.count-end.result c.loop.counter (left c.loop.self) _ (left c.argument.new.self) _ c.loop-test.true (sym c.next_is.ensures ∙ c.if-not-next_is.false) c.in_ok-argument.ensures c.loop.invariant)

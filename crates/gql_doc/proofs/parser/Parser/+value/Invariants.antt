@@ -1,7 +1,7 @@
 use Rattle.std.proofs.Common.{◌≡◌, ◌+◌, ◌-◌, ◌*◌}
-use Rattle.gql_doc.specs.Left.{left}
-use Rattle.gql_doc.specs.Marks.{is_name}
-use Rattle.gql_doc.specs.Reading.{many, many_at, begins_value, value, argument}
+use Rattle.gql_doc.specs.inner.Left.{left}
+use Rattle.gql_doc.specs.Terminals.{is_name}
+use Rattle.gql_doc.specs.inner.Reading.{many, many_at, begins_value, value, argument}
 use Rattle.gql_doc.proofs.Loops.{with_front}
 use Rattle.gql_doc.proofs.parser.Parser.+value.Given as goal
 

@@ -1,6 +1,6 @@
 use Rattle.std.proofs.Common.{arith}
-use Rattle.gql_doc.specs.Left.{left}
-use Rattle.gql_doc.specs.Reading.{is_any, any_definition}
+use Rattle.gql_doc.specs.inner.Left.{left}
+use Rattle.gql_doc.specs.inner.Reading.{is_any, any_definition}
 use Rattle.gql_doc.proofs.Loops.{any_next, with_front-turn}
 use Rattle.gql_doc.proofs.parser.Parser.definitions.Goals as goal
 

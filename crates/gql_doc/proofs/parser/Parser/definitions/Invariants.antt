@@ -1,6 +1,6 @@
 use Rattle.std.proofs.Common.{◌≡◌, ◌-◌}
-use Rattle.gql_doc.specs.Left.{left}
-use Rattle.gql_doc.specs.Reading.{many, many_at, is_any, any_definition}
+use Rattle.gql_doc.specs.inner.Left.{left}
+use Rattle.gql_doc.specs.inner.Reading.{many, many_at, is_any, any_definition}
 use Rattle.gql_doc.proofs.Loops.{with_front}
 use Rattle.gql_doc.proofs.parser.Parser.definitions.Given as goal
 

@@ -1,26 +1,26 @@
-use Rattle.std.proofs.Common.{◌∙◌, sym}
+use Rattle.std.proofs.Common.{codes, ◌∙◌, sym}
 use Rattle.std.proofs.lemmas.Result.{err_from_is_err_and}
-use Rattle.gql_doc.specs.Left.{left}
-use Rattle.gql_doc.specs.Marks.{is_mark}
-use Rattle.gql_doc.specs.Reading.{directive, directives}
+use Rattle.gql_doc.specs.inner.Left.{left}
+use Rattle.gql_doc.specs.Terminals.{is_punctuator}
+use Rattle.gql_doc.specs.inner.Reading.{directive, directives}
 use Rattle.gql_doc.proofs.Loops.{with_front-turn, with_front-stop, with_front-end, with_front-last}
 use Rattle.gql_doc.proofs.parser.Parser.directives.Goals as goal
 
 pub returns-then-not-next_is : goal.returns-then-not-next_is
 unfolding directives
-returns-then-not-next_is c = with_front-end (is_mark 64) (directive c.args.constant c.args.room) c.loop.directives c.count-end.result c.loop.counter (left c.loop.self) _ c.loop-test.true (sym c.next_is.ensures ∙ c.if-not-next_is.true) c.loop.invariant
+returns-then-not-next_is c = with_front-end (is_punctuator (codes "@")) (directive c.args.constant c.args.room) c.loop.directives c.count-end.result c.loop.counter (left c.loop.self) _ c.loop-test.true (sym c.next_is.ensures ∙ c.if-not-next_is.true) c.loop.invariant
 
 pub returns-in_err-directive : goal.returns-in_err-directive
 unfolding directives
 returns-in_err-directive c =
     let p = err_from_is_err_and c.from_residual.result c.from_residual.ensures.1 in
-    rw (p.1, p.2) (with_front-stop (is_mark 64) (directive c.args.constant c.args.room) c.loop.directives c.count-end.result c.loop.counter (left c.loop.self) (left c.directive.new.self) c.in_err-directive.field-0.0 _ c.loop-test.true (sym c.next_is.ensures ∙ c.if-not-next_is.false) c.in_err-directive.ensures c.loop.invariant)
+    rw (p.1, p.2) (with_front-stop (is_punctuator (codes "@")) (directive c.args.constant c.args.room) c.loop.directives c.count-end.result c.loop.counter (left c.loop.self) (left c.directive.new.self) c.in_err-directive.field-0.0 _ c.loop-test.true (sym c.next_is.ensures ∙ c.if-not-next_is.false) c.in_err-directive.ensures c.loop.invariant)
 
 pub returns : goal.returns
 unfolding directives
-returns c = with_front-last (is_mark 64) (directive c.args.constant c.args.room) c.loop.directives c.count-end.result c.loop.counter (left c.loop.self) _ c.loop-test.false c.loop.invariant
+returns c = with_front-last (is_punctuator (codes "@")) (directive c.args.constant c.args.room) c.loop.directives c.count-end.result c.loop.counter (left c.loop.self) _ c.loop-test.false c.loop.invariant
 
 pub loop-preserved : goal.loop-preserved
 unfolding directives
 loop-preserved c =
-    rw c.in_ok-push.ensures.ok (with_front-turn (is_mark 64) (directive c.args.constant c.args.room) c.loop.directives c.count-end.result c.loop.counter (left c.loop.self) _ (left c.directive.new.self) _ c.loop-test.true (sym c.next_is.ensures ∙ c.if-not-next_is.false) c.in_ok-directive.ensures c.loop.invariant)
+    rw c.in_ok-push.ensures.ok (with_front-turn (is_punctuator (codes "@")) (directive c.args.constant c.args.room) c.loop.directives c.count-end.result c.loop.counter (left c.loop.self) _ (left c.directive.new.self) _ c.loop-test.true (sym c.next_is.ensures ∙ c.if-not-next_is.false) c.in_ok-directive.ensures c.loop.invariant)

@@ -5,7 +5,7 @@ use Rattle.std.specs.Prelude.{◌≡◌, ℕ, zero, suc, ◌||◌, if◌then◌e
 use Rattle.gql_tree.specs.declared.delivery.Spot.{Spot}
 use Rattle.gql_lex.specs.Tokens.{Lexeme}
 use Rattle.gql_doc.specs.StringValue.{string_value}
-use Rattle.gql_doc.specs.Marks.{is_mark, is_name, is_number, is_string, is_word, is_fragment_name, is_operation_type}
+use Rattle.gql_doc.specs.Terminals.{is_punctuator, is_name, is_number, is_string, is_word, is_fragment_name, is_operation_type}
 use Rattle.gql_doc.specs.Grammar.{word_value, alias_by, name_by, condition_text, inline_spot, name_text, operation_kind}
 use Rattle.gql_doc.specs.declared.parser.Stop.{Stop}
 use Rattle.gql_doc.specs.declared.parser.Stop.TheVariants as stop
@@ -97,35 +97,35 @@ optional test reader = pick test (reader >>= λ value. gives (Some value)) (give
 abbrev pub listed : {A : Type 0} → (Lexeme → Bool) → Reader (List A) → Reader (List A)
 listed test reader = pick test reader (gives [])
 
-abbrev pub mark : ℕ → Reader Lexeme
-mark byte = take (is_mark byte)
+abbrev pub punctuator : List ℕ → Reader Lexeme
+punctuator text = take (is_punctuator text)
 
 abbrev pub name : Reader Lexeme
 name = take is_name
 
-abbrev pub between : {A : Type 0} → ℕ → Reader A → ℕ → Reader (Spot × A)
+abbrev pub between : {A : Type 0} → List ℕ → Reader A → List ℕ → Reader (Spot × A)
 between opening inside closing = do
-  first ← mark opening
+  first ← punctuator opening
   value ← inside
-  mark closing
+  punctuator closing
   gives (first.spot, value)
 
 -- ---- values
 
 abbrev pub begins_value : Lexeme → Bool
-begins_value token = is_mark 36 token || (is_number token || (is_string token || (is_name token || (is_mark 91 token || is_mark 123 token))))
+begins_value token = is_punctuator (codes "$") token || (is_number token || (is_string token || (is_name token || (is_punctuator (codes "[") token || is_punctuator (codes "{") token))))
 
 abbrev pub variable : Bool → Reader Literal
 variable true tokens = Err (stop.Unexpected, tokens)
 variable false tokens = (do
-  dollar ← mark 36
+  dollar ← punctuator (codes "$")
   word ← name
   gives (literal.Variable word.text dollar.spot)) tokens
 
 unfoldable pub argument : Reader Literal → Reader Argument
 argument value = do
   word ← name
-  mark 58
+  punctuator (codes ":")
   it ← value
   gives (roll-Argument (record { name = word.text; value = it; spot = word.spot }))
 
@@ -133,25 +133,25 @@ abbrev pub word : Reader Literal
 word = name >>= λ it. gives (word_value it)
 
 abbrev pub list_value : Reader Literal → Reader Literal
-list_value value = between 91 (many begins_value value) 93 >>= λ list. gives (literal.List list.1 list.0)
+list_value value = between (codes "[") (many begins_value value) (codes "]") >>= λ list. gives (literal.List list.1 list.0)
 
 abbrev pub object_value : Reader Literal → Reader Literal
-object_value value = between 123 (many is_name (argument value)) 125 >>= λ object. gives (literal.Object object.1 object.0)
+object_value value = between (codes "{") (many is_name (argument value)) (codes "}") >>= λ object. gives (literal.Object object.1 object.0)
 
 abbrev pub nested_value : Reader Literal → Reader Literal
-nested_value value = pick (is_mark 91) (list_value value) (object_value value)
+nested_value value = pick (is_punctuator (codes "[")) (list_value value) (object_value value)
 
 -- a value that begins with no bracket or brace, and else what `nested` reads
 abbrev pub value_or : Bool → Reader Literal → Reader Literal
 value_or constant nested =
-    pick (is_mark 36) (variable constant)
+    pick (is_punctuator (codes "$")) (variable constant)
     (pick is_number (take is_number >>= λ number. gives (literal.Int number.text number.spot))
     (pick is_string (take is_string >>= λ string. gives (literal.Text (string_value string.kind string.text) string.spot))
     (pick is_name word
     nested)))
 
 abbrev pub begins_nested : Lexeme → Bool
-begins_nested token = is_mark 91 token || is_mark 123 token
+begins_nested token = is_punctuator (codes "[") token || is_punctuator (codes "{") token
 
 -- lists and objects, where so many brackets and braces may still be opened
 unfoldable pub nested : Bool → ℕ → Reader Literal
@@ -162,22 +162,22 @@ abbrev pub value : Bool → ℕ → Reader Literal
 value constant room = value_or constant (nested constant room)
 
 unfoldable pub arguments : Bool → ℕ → Reader (List Argument)
-arguments constant room = listed (is_mark 40) (between 40 (some is_name (argument (value constant room))) 41 >>= λ all. gives all.1)
+arguments constant room = listed (is_punctuator (codes "(")) (between (codes "(") (some is_name (argument (value constant room))) (codes ")") >>= λ all. gives all.1)
 
 unfoldable pub directive : Bool → ℕ → Reader DirectiveUse
 directive constant room = do
-  at ← mark 64
+  at ← punctuator (codes "@")
   word ← name
   given ← arguments constant room
   gives (record { name = word.text; arguments = given; spot = at.spot })
 
 unfoldable pub directives : Bool → ℕ → Reader (List DirectiveUse)
-directives constant room = many (is_mark 64) (directive constant room)
+directives constant room = many (is_punctuator (codes "@")) (directive constant room)
 
 -- ---- variables
 
 abbrev pub maybe_non_null : TypeRef → Reader TypeRef
-maybe_non_null inner = pick (is_mark 33) (mark 33 >>= λ _. gives (type.NonNull inner)) (gives inner)
+maybe_non_null inner = pick (is_punctuator (codes "!")) (punctuator (codes "!") >>= λ _. gives (type.NonNull inner)) (gives inner)
 
 abbrev pub named_type : Reader TypeRef
 named_type = name >>= λ word. gives (type.Named word.text word.spot)
@@ -187,43 +187,43 @@ abbrev pub type_or : Reader TypeRef → Reader TypeRef
 type_or nested = pick is_name named_type nested >>= maybe_non_null
 
 unfoldable pub list_type : ℕ → Reader TypeRef
-list_type zero = shut (is_mark 91)
-list_type (suc room) = between 91 (type_or (list_type room)) 93 >>= λ list. gives (type.List list.1)
+list_type zero = shut (is_punctuator (codes "["))
+list_type (suc room) = between (codes "[") (type_or (list_type room)) (codes "]") >>= λ list. gives (type.List list.1)
 
 unfoldable pub type_ref : ℕ → Reader TypeRef
 type_ref room = type_or (list_type room)
 
 unfoldable pub default_value : ℕ → Reader Literal
-default_value room = mark 61 >>= λ _. value true room
+default_value room = punctuator (codes "=") >>= λ _. value true room
 
 unfoldable pub variable_definition : ℕ → Reader VariableDef
 variable_definition room = do
-  dollar ← mark 36
+  dollar ← punctuator (codes "$")
   word ← name
-  mark 58
+  punctuator (codes ":")
   kind ← type_ref room
-  default ← optional (is_mark 61) (default_value room)
+  default ← optional (is_punctuator (codes "=")) (default_value room)
   used ← directives true room
   gives (record { name = word.text; kind = kind; default = default; directives = used; spot = dollar.spot })
 
 unfoldable pub variable_definitions : ℕ → Reader (List VariableDef)
-variable_definitions room = listed (is_mark 40) (between 40 (some (is_mark 36) (variable_definition room)) 41 >>= λ all. gives all.1)
+variable_definitions room = listed (is_punctuator (codes "(")) (between (codes "(") (some (is_punctuator (codes "$")) (variable_definition room)) (codes ")") >>= λ all. gives all.1)
 
 -- ---- selections
 
 abbrev pub aliased : Reader Lexeme
-aliased = mark 58 >>= λ _. name
+aliased = punctuator (codes ":") >>= λ _. name
 
 abbrev pub begins_selection : Lexeme → Bool
-begins_selection token = is_name token || is_mark 46 token
+begins_selection token = is_name token || is_punctuator (codes "...") token
 
 unfoldable pub field : ℕ → Reader (List Selection) → Reader Selection
 field room inner = do
   first ← name
-  second ← optional (is_mark 58) aliased
+  second ← optional (is_punctuator (codes ":")) aliased
   given ← arguments false room
   used ← directives false room
-  inside ← listed (is_mark 123) inner
+  inside ← listed (is_punctuator (codes "{")) inner
   gives (selection.Field (roll-FieldNode (record { alias = alias_by first second; name = name_by first second; arguments = given; directives = used; selections = inside; spot = first.spot })))
 
 unfoldable pub spread : ℕ → Reader Selection
@@ -247,11 +247,11 @@ inline_fragment room inner dots = do
 
 unfoldable pub any_selection : ℕ → Reader (List Selection) → Reader Selection
 any_selection room inner = pick is_name (field room inner)
-    (mark 46 >>= λ dots. pick is_fragment_name (spread room) (inline_fragment room inner dots.spot))
+    (punctuator (codes "...") >>= λ dots. pick is_fragment_name (spread room) (inline_fragment room inner dots.spot))
 
 unfoldable pub selection_set : ℕ → Reader (Spot × List Selection)
-selection_set zero = shut (is_mark 123)
-selection_set (suc room) = between 123 (some begins_selection (any_selection room (selection_set room >>= λ set. gives set.1))) 125
+selection_set zero = shut (is_punctuator (codes "{"))
+selection_set (suc room) = between (codes "{") (some begins_selection (any_selection room (selection_set room >>= λ set. gives set.1))) (codes "}")
 
 unfoldable pub selections : ℕ → Reader (List Selection)
 selections room = selection_set room >>= λ set. gives set.1
@@ -284,7 +284,7 @@ fragment_definition room = do
   gives (definition.Fragment (record { name = word.text; condition = condition.text; condition_spot = condition.spot; directives = used; selections = inside; spot = word.spot }))
 
 unfoldable pub any_definition : ℕ → Reader Definition
-any_definition room = pick (is_mark 123) (short_operation room) (pick is_operation_type (operation_definition room) (fragment_definition room))
+any_definition room = pick (is_punctuator (codes "{")) (short_operation room) (pick is_operation_type (operation_definition room) (fragment_definition room))
 
 abbrev pub is_any : Lexeme → Bool
 is_any token = true

@@ -1,26 +1,23 @@
--- What a token is to the grammar.
-use Rattle.std.specs.Prelude.{ℕ, ◌==◌, ◌||◌, ◌&&◌, not, Bool, true, false, List, [], ◌∷◌, codes}
+-- The terminals of the grammar: what a token is to it.
+use Rattle.std.specs.Prelude.{ℕ, ◌||◌, ◌&&◌, not, Bool, true, false, List, codes}
 use Rattle.std.specs.Str.{bytes_eq}
 use Rattle.gql_lex.specs.Tokens.{Lexeme}
 use Rattle.gql_lex.specs.declared.token.TokenKind.{TokenKind}
 use Rattle.gql_lex.specs.declared.token.TokenKind.TheVariants as kind
 
--- a punctuator that begins with this byte; no other one begins with it
-abbrev pub is_mark_of : TokenKind → List ℕ → ℕ → Bool
-is_mark_of kind.Punctuator (first ∷ rest) byte = first == byte
-is_mark_of kind.Punctuator [] byte = false
-is_mark_of kind.Name text byte = false
-is_mark_of kind.Int text byte = false
-is_mark_of kind.Quoted text byte = false
-is_mark_of kind.Block text byte = false
+abbrev pub is_punctuator_kind : TokenKind → Bool
+is_punctuator_kind kind.Punctuator = true
+is_punctuator_kind _ = false
 
-abbrev pub is_mark : ℕ → Lexeme → Bool
-is_mark byte token = is_mark_of token.kind token.text byte
+-- the punctuator of this text
+abbrev pub is_punctuator : List ℕ → Lexeme → Bool
+is_punctuator text token = is_punctuator_kind token.kind && bytes_eq token.text text
 
 abbrev pub is_name_kind : TokenKind → Bool
 is_name_kind kind.Name = true
 is_name_kind _ = false
 
+-- Name
 abbrev pub is_name : Lexeme → Bool
 is_name token = is_name_kind token.kind
 
@@ -28,19 +25,20 @@ abbrev pub is_number_kind : TokenKind → Bool
 is_number_kind kind.Int = true
 is_number_kind _ = false
 
+-- IntValue
 abbrev pub is_number : Lexeme → Bool
 is_number token = is_number_kind token.kind
 
--- a string of either form
 abbrev pub is_string_kind : TokenKind → Bool
 is_string_kind kind.Quoted = true
 is_string_kind kind.Block = true
 is_string_kind _ = false
 
+-- StringValue, of either form
 abbrev pub is_string : Lexeme → Bool
 is_string token = is_string_kind token.kind
 
--- a name of these bytes
+-- the name of this text
 abbrev pub is_word : List ℕ → Lexeme → Bool
 is_word word token = is_name token && bytes_eq token.text word
 
@@ -56,8 +54,8 @@ is_operation_type token = is_word (codes "query") token || (is_word (codes "muta
 
 -- `[` and `{`
 abbrev pub is_opening : Lexeme → Bool
-is_opening token = is_mark 91 token || is_mark 123 token
+is_opening token = is_punctuator (codes "[") token || is_punctuator (codes "{") token
 
 -- `]` and `}`
 abbrev pub is_closing : Lexeme → Bool
-is_closing token = is_mark 93 token || is_mark 125 token
+is_closing token = is_punctuator (codes "]") token || is_punctuator (codes "}") token

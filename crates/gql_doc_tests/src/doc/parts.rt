@@ -1,7 +1,7 @@
 //! Parts of documents that are read: kinds, names, values and places, by hand.
 
-use crate::parse;
-use crate::tests::documents::titled;
+use crate::shared::titled;
+use gql_doc::parse;
 use gql_model::{Definition, Document, FieldNode, Literal, OperationDef, OperationKind, Selection};
 use gql_tree::{Listed, Text};
 use std::alloc::Global;

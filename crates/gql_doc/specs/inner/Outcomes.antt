@@ -2,7 +2,7 @@
 use Rattle.std.specs.Prelude.{List, [], ◌∷◌, Option, Some, None, Result, Ok, Err}
 use Rattle.gql_tree.specs.declared.delivery.Spot.{Spot}
 use Rattle.gql_lex.specs.Tokens.{Lexeme}
-use Rattle.gql_doc.specs.Reading.{Reading}
+use Rattle.gql_doc.specs.inner.Reading.{Reading}
 use Rattle.gql_doc.specs.declared.parser.Stop.{Stop}
 use Rattle.gql_doc.specs.declared.parser.Stop.TheVariants as stop
 use Rattle.gql_doc.specs.declared.tokens.TextEnd.{TextEnd}

@@ -1,39 +1,17 @@
 //! Documents, and texts that are none with what is in the way, by hand.
 
-use crate::{ParseRefusal, parse};
+use crate::shared::titled;
+use gql_doc::{ParseRefusal, parse};
 use gql_lex::LexRefusal;
 use gql_tree::Spot;
 use std::alloc::Global;
 use std::test::Fail;
 
-/// A kind, a text and a place.
-pub(crate) fn titled(alloc: Global, kind: &str, text: &str, spot: Spot) -> Result<String, Fail> {
-    let Spot { line, column } = spot;
-    Ok(format!(in alloc; "{kind}{text} {line}:{column}")?)
-}
-
-/// The name of what is no token, and its place.
-fn lexical(refusal: LexRefusal) -> (&'static str, Spot) {
-    match refusal {
-        LexRefusal::BadCharacter(spot) => ("BadCharacter", spot),
-        LexRefusal::BadEscape(spot) => ("BadEscape", spot),
-        LexRefusal::OpenString(spot) => ("OpenString", spot),
-        LexRefusal::BadNumber(spot) => ("BadNumber", spot),
-        LexRefusal::FloatToken(spot) => ("FloatToken", spot),
-    }
-}
-
 /// A refusal's name, and its place where it has one.
 fn refusal_shown(alloc: Global, refusal: ParseRefusal) -> Result<String, Fail> {
-    match refusal {
-        ParseRefusal::TooLong => Ok(format!(in alloc; "TooLong")?),
-        ParseRefusal::NoMemory => Ok(format!(in alloc; "NoMemory")?),
-        ParseRefusal::Unexpected { spot } => titled(alloc, "Unexpected", "", spot),
-        ParseRefusal::TooDeep { spot } => titled(alloc, "TooDeep", "", spot),
-        ParseRefusal::Lex(refusal) => {
-            let (name, spot) = lexical(refusal);
-            titled(alloc, name, "", spot)
-        }
+    match refusal.spot() {
+        Some(spot) => titled(alloc, refusal.name(), "", spot),
+        None => Ok(format!(in alloc; "{}", refusal.name())?),
     }
 }
 
@@ -231,6 +209,35 @@ fn no_tokens(rt: HostRuntime) -> Result<(), Fail> {
     for (text, want) in table {
         let got = shown(alloc, text)?;
         assert_eq!(rt; got.as_str(), want, "{text}");
+    }
+    Ok(())
+}
+
+#[test]
+fn messages(rt: HostRuntime) -> Result<(), Fail> {
+    let spot = Spot { line: 2, column: 7 };
+    let table = [
+        (
+            ParseRefusal::TooLong,
+            "the text has more than 1,048,576 bytes",
+        ),
+        (
+            ParseRefusal::Lex(LexRefusal::OpenString(spot)),
+            "the string at 2:7 doesn't end",
+        ),
+        (
+            ParseRefusal::Unexpected { spot },
+            "no document goes on with what stands at 2:7",
+        ),
+        (
+            ParseRefusal::TooDeep { spot },
+            "the brace or bracket at 2:7 is opened inside 128 others",
+        ),
+        (ParseRefusal::NoMemory, "no memory is left"),
+    ];
+    for (refusal, want) in table {
+        let got = format!(in rt.alloc(); "{refusal}")?;
+        assert_eq!(rt; got.as_str(), want);
     }
     Ok(())
 }

@@ -1,21 +1,14 @@
 //! Strings whose values are known, by hand.
 
-mod documents;
-mod hostile;
-mod parts;
-
-use crate::string_value;
-use gql_lex::Lexer;
+use crate::shared::lexer_of;
+use gql_doc::string_value;
 use gql_tree::Text;
 use std::alloc::Global;
 use std::test::Fail;
 
 /// What the first token of a text means.
 fn value_of(alloc: Global, text: &str) -> Result<Text, Fail> {
-    if text.len() >= 4_294_967_295 {
-        return Err(Fail::new("too long"));
-    }
-    match Lexer::new(text).next() {
+    match lexer_of(text)?.next() {
         Ok(Some(token)) => Ok(string_value(alloc, &token)?),
         _ => Err(Fail::new("no token")),
     }

@@ -1,28 +1,15 @@
 //! Texts whose tokens and refusals are known, by hand.
 
-use crate::{LexRefusal, Lexer, Token, TokenKind};
+use crate::shared::{lexer_of, titled};
+use gql_lex::{LexRefusal, Lexer, Token, TokenKind};
 use gql_tree::Spot;
 use std::alloc::Global;
 use std::test::Fail;
 
-/// A refusal's name and its place.
-fn parts(refusal: LexRefusal) -> (&'static str, Spot) {
-    match refusal {
-        LexRefusal::BadCharacter(spot) => ("BadCharacter", spot),
-        LexRefusal::BadEscape(spot) => ("BadEscape", spot),
-        LexRefusal::OpenString(spot) => ("OpenString", spot),
-        LexRefusal::BadNumber(spot) => ("BadNumber", spot),
-        LexRefusal::FloatToken(spot) => ("FloatToken", spot),
-    }
-}
-
 /// Each token as its kind, its text, its start and its place, and then the refusal.
 fn shown(alloc: Global, text: &str) -> Result<String, Fail> {
-    if text.len() >= 4_294_967_295 {
-        return Err(Fail::new("too long"));
-    }
     let mut out = String::new(alloc);
-    let mut lexer = Lexer::new(text);
+    let mut lexer = lexer_of(text)?;
     for _ in 0..text.len() + 1 {
         match lexer.next() {
             Ok(Some(token)) => {
@@ -38,9 +25,7 @@ fn shown(alloc: Global, text: &str) -> Result<String, Fail> {
             }
             Ok(None) => return Ok(out),
             Err(refusal) => {
-                let (name, spot) = parts(refusal);
-                let Spot { line, column } = spot;
-                let part = format!(in alloc; "{name} {line}:{column}")?;
+                let part = titled(alloc, refusal.name(), "", refusal.spot())?;
                 out.push_str(part.as_str())?;
                 return Ok(out);
             }
@@ -147,10 +132,7 @@ fn refusals(rt: HostRuntime) -> Result<(), Fail> {
 
 /// How many tokens a text has, and its refusal.
 fn counted(text: &str) -> Result<(usize, Option<LexRefusal>), Fail> {
-    if text.len() >= 4_294_967_295 {
-        return Err(Fail::new("too long"));
-    }
-    let mut lexer = Lexer::new(text);
+    let mut lexer = lexer_of(text)?;
     for count in 0..text.len() + 1 {
         match lexer.next() {
             Ok(Some(_)) => {}
@@ -202,10 +184,7 @@ fn same_again(rt: HostRuntime) -> Result<(), Fail> {
 
 /// Where a text ends.
 fn end_of(text: &str) -> Result<(u32, u32), Fail> {
-    if text.len() >= 4_294_967_295 {
-        return Err(Fail::new("too long"));
-    }
-    let Spot { line, column } = Lexer::new(text).end();
+    let Spot { line, column } = lexer_of(text)?.end();
     Ok((line, column))
 }
 
@@ -221,6 +200,38 @@ fn ends(rt: HostRuntime) -> Result<(), Fail> {
     ];
     for (text, end) in table {
         assert_eq!(rt; end_of(text)?, end);
+    }
+    Ok(())
+}
+
+#[test]
+fn messages(rt: HostRuntime) -> Result<(), Fail> {
+    let spot = Spot { line: 2, column: 7 };
+    let table = [
+        (
+            LexRefusal::BadCharacter(spot),
+            "the character at 2:7 belongs to no token",
+        ),
+        (
+            LexRefusal::BadEscape(spot),
+            "the escape at 2:7 stands for no character",
+        ),
+        (
+            LexRefusal::OpenString(spot),
+            "the string at 2:7 doesn't end",
+        ),
+        (
+            LexRefusal::BadNumber(spot),
+            "the number at 2:7 is not well formed",
+        ),
+        (
+            LexRefusal::FloatToken(spot),
+            "the number at 2:7 has a fraction or an exponent",
+        ),
+    ];
+    for (refusal, want) in table {
+        let got = format!(in rt.alloc(); "{refusal}")?;
+        assert_eq!(rt; got.as_str(), want);
     }
     Ok(())
 }

@@ -1,6 +1,6 @@
 //! Documents built by hand, and their texts.
 
-use crate::{parse, print};
+use gql_doc::{parse, print};
 use gql_model::{
     Argument, Boxed, Definition, DirectiveUse, Document, FieldNode, FragmentDef, InlineNode,
     Literal, OperationDef, OperationKind, Selection, SpreadNode, TypeRef, VariableDef,

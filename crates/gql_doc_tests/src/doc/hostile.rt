@@ -1,8 +1,8 @@
 //! Long texts, deep ones, and each beginning of a document, by hand.
 
-use crate::tests::documents::shown;
-use crate::{ParseRefusal, parse};
-use gql_lex::{LexRefusal, Lexer};
+use crate::doc::documents::shown;
+use crate::shared::lexer_of;
+use gql_doc::parse;
 use gql_tree::Spot;
 use std::alloc::Global;
 use std::test::Fail;
@@ -111,10 +111,7 @@ fn rich() -> &'static str {
 
 /// Where the last token begins that begins before the column `end` of a text in one line.
 fn last_token(text: &str, end: u32) -> Result<u32, Fail> {
-    if text.len() >= 4_294_967_295 {
-        return Err(Fail::new("too long"));
-    }
-    let mut lexer = Lexer::new(text);
+    let mut lexer = lexer_of(text)?;
     let mut last = 1;
     for _ in 0..text.len() + 1 {
         match lexer.next() {
@@ -123,22 +120,6 @@ fn last_token(text: &str, end: u32) -> Result<u32, Fail> {
         }
     }
     Ok(last)
-}
-
-/// Where a refusal stands.
-fn place(refusal: ParseRefusal) -> Option<Spot> {
-    match refusal {
-        ParseRefusal::Unexpected { spot }
-        | ParseRefusal::TooDeep { spot }
-        | ParseRefusal::Lex(
-            LexRefusal::BadCharacter(spot)
-            | LexRefusal::BadEscape(spot)
-            | LexRefusal::OpenString(spot)
-            | LexRefusal::BadNumber(spot)
-            | LexRefusal::FloatToken(spot),
-        ) => Some(spot),
-        ParseRefusal::TooLong | ParseRefusal::NoMemory => None,
-    }
 }
 
 /// Each beginning of a document is one where a definition ends, and else refused at its end or where
@@ -159,7 +140,7 @@ fn beginnings(rt: HostRuntime) -> Result<(), Fail> {
             }
             Err(refusal) => {
                 let last = last_token(rich(), end)?;
-                let Some(Spot { line, column }) = place(refusal) else {
+                let Some(Spot { line, column }) = refusal.spot() else {
                     return Err(Fail::new("no place"));
                 };
                 assert!(rt;

@@ -1,0 +1,85 @@
+//! The terminals of the grammar.
+
+ghost use Rattle.std.specs.Prelude.{◌≡◌, codes};
+ghost use Rattle.gql_lex.specs.Tokens.{lexeme};
+ghost use Rattle.gql_doc.specs.Terminals.{is_punctuator, is_name, is_number, is_string, is_word, is_fragment_name, is_operation_type};
+ghost use Rattle.gql_doc.specs.inner.Matches.{matches};
+
+use gql_lex::{Token, TokenKind};
+
+/// A terminal of the grammar: what a token has to be at some place of a production.
+#[derive(Clone, Copy)]
+pub(crate) enum Terminal {
+    /// The punctuator of this text.
+    Punctuator(&'static str),
+    Name,
+    Number,
+    /// A string of either form.
+    StringValue,
+    /// The name of this text.
+    Word(&'static str),
+    /// Any name but `on`.
+    FragmentName,
+    /// `query`, `mutation` or `subscription`.
+    OperationType,
+}
+
+impl Terminal {
+    /// Whether a token is this terminal.
+    pub(crate) fn matches(self, token: &Token<'_>) -> bool
+        ensures { result ≡ matches self (lexeme token.now) }
+    {
+        match self {
+            Terminal::Punctuator(text) => is_punctuator(token, text),
+            Terminal::Name => is_name(token),
+            Terminal::Number => is_number(token),
+            Terminal::StringValue => is_string(token),
+            Terminal::Word(text) => is_word(token, text),
+            Terminal::FragmentName => is_fragment_name(token),
+            Terminal::OperationType => is_operation_type(token),
+        }
+    }
+}
+
+fn is_punctuator(token: &Token<'_>, text: &str) -> bool
+    ensures { result ≡ is_punctuator text.now (lexeme token.now) }
+{
+    matches!(token.kind, TokenKind::Punctuator) && token.text == text
+}
+
+fn is_name(token: &Token<'_>) -> bool
+    ensures { result ≡ is_name (lexeme token.now) }
+{
+    matches!(token.kind, TokenKind::Name)
+}
+
+fn is_number(token: &Token<'_>) -> bool
+    ensures { result ≡ is_number (lexeme token.now) }
+{
+    matches!(token.kind, TokenKind::Int)
+}
+
+fn is_string(token: &Token<'_>) -> bool
+    ensures { result ≡ is_string (lexeme token.now) }
+{
+    matches!(token.kind, TokenKind::Quoted | TokenKind::Block)
+}
+
+fn is_word(token: &Token<'_>, text: &str) -> bool
+    ensures { result ≡ is_word text.now (lexeme token.now) }
+{
+    is_name(token) && token.text == text
+}
+
+fn is_fragment_name(token: &Token<'_>) -> bool
+    ensures { result ≡ is_fragment_name (lexeme token.now) }
+{
+    is_name(token) && token.text != "on"
+}
+
+fn is_operation_type(token: &Token<'_>) -> bool
+    ensures { result ≡ is_operation_type (lexeme token.now) }
+{
+    is_name(token)
+        && (token.text == "query" || token.text == "mutation" || token.text == "subscription")
+}

@@ -1,0 +1,2 @@
+-- What private clauses speak of, and no public one.
+pub mod Found
