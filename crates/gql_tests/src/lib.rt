@@ -2,3 +2,8 @@
 //! bodies, merging and the client. They show what no contract says: that calls succeed where memory is ample, and worked
 //! rows. They stand apart since a crate with tests is proved a second time with them.
 #![tactic(auto)]
+
+#[cfg(test)]
+mod merge;
+#[cfg(test)]
+mod multipart;
