@@ -6,7 +6,7 @@ use Rattle.gql_multipart.specs.declared.read.Stop.TheVariants.{More, Ended, Refu
 use Rattle.gql_multipart.specs.declared.read.Found.{Found}
 use Rattle.gql_multipart.specs.Body.{dashes, boundary_byte, IsBoundary, Body}
 use Rattle.gql_multipart.specs.Past.{Past, Kept, Stands, after, kept_after, Said, gives, IsAnswer, IsGiven}
-use Rattle.gql_multipart.specs.Reading.{seek, content_of, stop_says, has_ended}
+use Rattle.gql_multipart.specs.inner.Reading.{seek, content_of, stop_says, has_ended}
 use Rattle.gql_multipart.proofs.Lists.{NoCr}
 use Rattle.gql_multipart.proofs.Places.{sought}
 use Rattle.gql_multipart.proofs.PartLists.{begins-length}

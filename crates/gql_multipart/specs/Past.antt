@@ -22,7 +22,7 @@ abbrev pub begun : List ℕ → Past
 begun boundary = record { boundary = boundary; bytes = []; given = 0 }
 
 abbrev pub fed : Past → List ℕ → Past
-fed past piece = record past { bytes = past.bytes ++ piece }
+fed past cut = record past { bytes = past.bytes ++ cut }
 
 -- what a reader keeps: CRLF and the mark, all bytes, and how many parts it gave
 pub record Kept : Type 0 where

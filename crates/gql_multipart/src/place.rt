@@ -11,7 +11,7 @@
 //! come can't fit into this room.
 
 ghost use Rattle.std.specs.Prelude.{◌≡◌, ◌+◌, ◌<◌, length};
-ghost use Rattle.gql_multipart.specs.Reading.{IsAlive, IsShort, step, mark_step, missed, matched_step, blank_step, line_step, name_step, value_step, bar, feed_step, named, valued, clashes, name_need};
+ghost use Rattle.gql_multipart.specs.inner.Reading.{IsAlive, IsShort, step, mark_step, missed, matched_step, blank_step, line_step, name_step, value_step, bar, feed_step, named, valued, clashes, name_need};
 
 use crate::bytes::{byte_at, is_blank, is_token, is_value};
 

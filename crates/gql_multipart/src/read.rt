@@ -1,7 +1,7 @@
 //! A body from its first byte on, part after part.
 
 ghost use Rattle.std.specs.Prelude.{◌≡◌, ◌+◌, ◌-◌, ◌<◌, ◌≤◌, length, drop, IfOk, true, ◌==◌};
-ghost use Rattle.gql_multipart.specs.Reading.{IsAlive, region, closing, mark_end, part_end, skip, seek, content_of};
+ghost use Rattle.gql_multipart.specs.inner.Reading.{IsAlive, region, second_dash, mark_end, part_end, skip, seek, content_of};
 
 use crate::place::{Moved, Place, step};
 use crate::refusal::FrameKind;
@@ -68,7 +68,7 @@ fn mark_end(mark: &[u8], first: bool, bytes: &[u8], at: usize) -> Result<usize, 
     ensures grows { IfOk result (λ next. (at < next) × (next ≤ length bytes.now)) }
 {
     if !first && at < bytes.len() && bytes[at] == b'-' {
-        return Err(closing(bytes, at + 1));
+        return Err(second_dash(bytes, at + 1));
     }
     region(
         mark,
@@ -80,8 +80,8 @@ fn mark_end(mark: &[u8], first: bool, bytes: &[u8], at: usize) -> Result<usize, 
 }
 
 /// What stands behind a mark and one dash.
-fn closing(bytes: &[u8], at: usize) -> Stop
-    ensures { result ≡ closing at (drop at bytes.now) }
+fn second_dash(bytes: &[u8], at: usize) -> Stop
+    ensures { result ≡ second_dash at (drop at bytes.now) }
 {
     if at >= bytes.len() {
         return Stop::More;

@@ -1,4 +1,4 @@
-//! The reader of a body that comes in pieces.
+//! The reader of a body that comes in cuts.
 
 ghost use Rattle.std.specs.Prelude.{◌≡◌, ◌++◌, ◌<◌, length, ⊤, IfOk, IfErr, OnOk, OnErr};
 ghost use mathlib.Core.Option.{none};
@@ -6,7 +6,7 @@ ghost use Rattle.std.specs.Borrow.{sem, follows_so};
 ghost use Rattle.gql_multipart.specs.Frame.{crlf};
 ghost use Rattle.gql_multipart.specs.Body as body;
 ghost use Rattle.gql_multipart.specs.contracts.reader.Reader.{the_row};
-ghost use Rattle.gql_multipart.specs.Reading.{stop_says, has_ended};
+ghost use Rattle.gql_multipart.specs.inner.Reading.{stop_says, has_ended};
 ghost use Rattle.gql_multipart.specs.Past.{Past, Kept, Stands, begun, fed, after, kept_after, IsAnswer, IsGiven, RefusesBoundary, IsEnd, said};
 
 use crate::bytes::is_boundary;
@@ -27,7 +27,7 @@ pub enum Step<'a> {
     Ended,
 }
 
-/// A reader of multipart bodies (RFC 2046, section 5.1) in any pieces.
+/// A reader of multipart bodies (RFC 2046, section 5.1) in any cutting.
 #[derive(Debug, Drop)]
 pub struct Reader {
     mark: Vec<u8>,
@@ -67,12 +67,12 @@ impl Reader {
         })
     }
 
-    /// Takes the next piece of the body. An `Err` changes nothing.
-    pub fn feed(&mut self, piece: &[u8]) -> Result<(), NoMemory>
-        ensures ok { OnOk result ((past : Past) → Stands self.old past → Stands self.new (fed past piece.now)) }
+    /// Takes the next cut of the body. An `Err` changes nothing.
+    pub fn feed(&mut self, cut: &[u8]) -> Result<(), NoMemory>
+        ensures ok { OnOk result ((past : Past) → Stands self.old past → Stands self.new (fed past cut.now)) }
         ensures err { OnErr result (self.new ≡ self.old) }
     {
-        self.bytes.extend_from_slice(piece)?;
+        self.bytes.extend_from_slice(cut)?;
         Ok(())
     }
 

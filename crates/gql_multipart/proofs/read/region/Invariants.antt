@@ -1,5 +1,5 @@
 use Rattle.std.proofs.Common.{◌≡◌, drop}
-use Rattle.gql_multipart.specs.Reading.{IsAlive, scan}
+use Rattle.gql_multipart.specs.inner.Reading.{IsAlive, scan}
 use Rattle.gql_multipart.proofs.read.region.Given as goal
 
 abbrev pub invariant-loop-index : goal.invariant-loop-index

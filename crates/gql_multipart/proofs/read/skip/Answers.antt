@@ -1,6 +1,6 @@
 use Rattle.std.proofs.Common.{◌≡◌, ◌+◌, ◌-◌, ◌==◌, false, sym, ap, ◌∙◌, arith, ne_eqb}
 use Rattle.std.proofs.lemmas.Result.{err_from_is_err_and}
-use Rattle.gql_multipart.specs.Reading.{skip}
+use Rattle.gql_multipart.specs.inner.Reading.{skip}
 use Rattle.gql_multipart.proofs.Steps.{skip_more, skip_stops, skip_none}
 use Rattle.gql_multipart.proofs.read.skip.Goals as goal
 

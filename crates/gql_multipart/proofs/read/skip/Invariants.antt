@@ -1,5 +1,5 @@
 use Rattle.std.proofs.Common.{◌≡◌, ◌+◌, ◌-◌, ◌≤◌, ◌==◌}
-use Rattle.gql_multipart.specs.Reading.{skip}
+use Rattle.gql_multipart.specs.inner.Reading.{skip}
 use Rattle.std.specs.Prelude.{true}
 use Rattle.gql_multipart.proofs.read.skip.Given as goal
 
