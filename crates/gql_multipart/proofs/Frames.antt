@@ -56,7 +56,7 @@ framed_header = ((header ++ crlf) ∷ [], ((codes "Content-Type", codes " applic
     values = each_test value_byte (codes " application/json; charset=utf-8") refl
 
 piece_is : (t : List ℕ) → IsFramable t → IsPart (codes "-") t (piece t)
-piece_is t f = (crlf, header ++ (crlf ++ crlf), t ++ (crlf ++ delimiter), ([], tt, omega arith, refl), framed_header, (f.most, inr (holds_none t (recursion_from_All _ t f.one_line) f.unmarked, refl)), refl)
+piece_is t f = (crlf, header ++ (crlf ++ crlf), t ++ (crlf ++ delimiter), ([], tt, omega arith, refl), framed_header, (f.most, inr (holds_none t (recursion_from_All _ t f.line.one_line) f.line.unmarked, refl)), refl)
 
 pieces_are : (ts : List (List ℕ)) (rest : List ℕ) → Each IsFramable ts → Parts (codes "-") ts rest (flat_map piece ts ++ rest)
 pieces_are [] rest each = refl

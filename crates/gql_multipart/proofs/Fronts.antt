@@ -10,12 +10,9 @@ use Rattle.gql_multipart.proofs.Frames.{pieces_end, frame_is_body}
 use Rattle.gql_multipart.proofs.Lines.{other_heads, begins_marked, piece_ended}
 use Rattle.gql_multipart.proofs.PartLists.{begins_more, begins-length}
 
-framable_line : (t : List ℕ) → IsFramable t → IsLine t
-framable_line t f = record { one_line = f.one_line; unmarked = f.unmarked }
-
 framable_lines : (ts : List (List ℕ)) → Each IsFramable ts → Each IsLine ts
 framable_lines [] each = tt
-framable_lines (t ∷ ts) each = (framable_line t each.0, framable_lines ts each.1)
+framable_lines (t ∷ ts) each = (each.0.line, framable_lines ts each.1)
 
 -- ---- parts behind a mark
 
@@ -68,20 +65,20 @@ no_part x content contents rest (part, after, (end, head, r, (blanks, each, most
     dash_first blanks x (10 ∷ ((head ++ r) ++ after)) each
     (cut ∙ (ap (λ z. z ++ after) (is ∙ ap (λ z. z ++ (head ++ r)) ends) ∙ (append_assoc (blanks ++ crlf) (head ++ r) after ∙ append_assoc blanks crlf ((head ++ r) ++ after))))
 
-framed : (ts : List (List ℕ)) → frame ts ≡ delimiter ++ (flat_map piece ts ++ (dashes ++ crlf))
-framed ts = ap (λ z. delimiter ++ z) (pieces_end ts)
+frame_split : (ts : List (List ℕ)) → frame ts ≡ delimiter ++ (flat_map piece ts ++ (dashes ++ crlf))
+frame_split ts = ap (λ z. delimiter ++ z) (pieces_end ts)
 
 pub front_open : (t : List ℕ) (ts : List (List ℕ)) (front back : List ℕ) → Each IsFramable (t ∷ ts) → front ++ back ≡ frame (t ∷ ts) → IsOpen (codes "-") front
 front_open t ts front back each e = (back, t ∷ ts, subst (λ z. Body (codes "-") z (t ∷ ts)) (sym e) (frame_is_body t ts each))
 
 pub front_parts : (t : List ℕ) (ts : List (List ℕ)) (front back : List ℕ) (contents : List (List ℕ)) → Each IsFramable (t ∷ ts) → front ++ back ≡ frame (t ∷ ts) → Complete (codes "-") front contents → AreFirst contents (t ∷ ts)
 front_parts t ts front back contents each e complete =
-    front_left (dashes ++ crlf) (no_part (45 ∷ crlf)) (t ∷ ts) contents front back (framable_lines (t ∷ ts) each) (e ∙ framed (t ∷ ts)) complete
+    front_left (dashes ++ crlf) (no_part (45 ∷ crlf)) (t ∷ ts) contents front back (framable_lines (t ∷ ts) each) (e ∙ frame_split (t ∷ ts)) complete
 
 -- a front of what was sent so far is one of the frame
 front_so_far : (t : List ℕ) (ts : List (List ℕ)) (front back : List ℕ) → front ++ back ≡ so_far (t ∷ ts) → front ++ (back ++ (dashes ++ crlf)) ≡ frame (t ∷ ts)
 front_so_far t ts front back e =
-    sym (append_assoc front back (dashes ++ crlf)) ∙ (ap (λ z. z ++ (dashes ++ crlf)) e ∙ (append_assoc delimiter (flat_map piece (t ∷ ts)) (dashes ++ crlf) ∙ sym (framed (t ∷ ts))))
+    sym (append_assoc front back (dashes ++ crlf)) ∙ (ap (λ z. z ++ (dashes ++ crlf)) e ∙ (append_assoc delimiter (flat_map piece (t ∷ ts)) (dashes ++ crlf) ∙ sym (frame_split (t ∷ ts))))
 
 -- the empty front
 nothing_in : (front back : List ℕ) → front ++ back ≡ [] → front ≡ []
@@ -89,7 +86,7 @@ nothing_in [] back e = refl
 nothing_in (x ∷ front) back e = absurd (cc)
 
 empty_framable : IsFramable []
-empty_framable = record { one_line = All-nil (λ b. b ≢ 13); unmarked = λ rest e. absurd (cc); most = omega arith }
+empty_framable = record { line = record { one_line = All-nil (λ b. b ≢ 13); unmarked = λ rest e. absurd (cc) }; most = omega arith }
 
 empty_open : IsOpen (codes "-") []
 empty_open = front_open [] [] [] (frame ([] ∷ [])) (empty_framable, tt) refl
@@ -133,7 +130,7 @@ module _ (ts : List (List ℕ)) (t : List ℕ) (each : Each IsFramable ts) (long
   so_far_long = so_far_more ts t ∙ ap (λ z. delimiter ++ z) (flat_map-append piece ts (t ∷ []))
 
   frame_long : frame (ts ++ t ∷ []) ≡ delimiter ++ (flat_map piece ts ++ (piece t ++ (dashes ++ crlf)))
-  frame_long = framed (ts ++ t ∷ []) ∙ ap (λ z. delimiter ++ z) (ap (λ z. z ++ (dashes ++ crlf)) (flat_map-append piece ts (t ∷ [])) ∙ joined (flat_map piece ts) (piece t) (dashes ++ crlf))
+  frame_long = frame_split (ts ++ t ∷ []) ∙ ap (λ z. delimiter ++ z) (ap (λ z. z ++ (dashes ++ crlf)) (flat_map-append piece ts (t ∷ [])) ∙ joined (flat_map piece ts) (piece t) (dashes ++ crlf))
 
   shut : (x : List ℕ) → IsOpen (codes "-") (delimiter ++ (flat_map piece ts ++ (piece t ++ x))) → ⊥
   shut x (more, contents, (some, any, begins)) =

@@ -34,16 +34,15 @@ abbrev pub so_far : List (List ℕ) → List ℕ
 so_far [] = []
 so_far (t ∷ ts) = delimiter ++ flat_map piece (t ∷ ts)
 
--- a text that a reader finds again: it is one line, doesn't begin with a delimiter and isn't too long
-pub record IsFramable (text : List ℕ) : Type 0 where
-  pub one_line : All (λ b. b ≢ 13) text
-  pub unmarked : (rest : List ℕ) → text ≡ delimiter ++ rest → ⊥
-  pub most : length text ≤ 67108864
-
 -- a text that is one line and doesn't begin with a delimiter, however long it is
 pub record IsLine (text : List ℕ) : Type 0 where
   pub one_line : All (λ b. b ≢ 13) text
   pub unmarked : (rest : List ℕ) → text ≡ delimiter ++ rest → ⊥
+
+-- such a text that isn't too long: a reader finds it again
+pub record IsFramable (text : List ℕ) : Type 0 where
+  pub line : IsLine text
+  pub most : length text ≤ 67108864
 
 -- such a text that is too long to be framed
 pub record IsLongLine (text : List ℕ) : Type 0 where

@@ -56,7 +56,7 @@ payload_lines [] = tt
 payload_lines (p ∷ ps) = (payload_line p, payload_lines ps)
 
 framable : (t : List ℕ) → IsLine t → Fits t → IsFramable t
-framable t line fits = record { one_line = line.one_line; unmarked = line.unmarked; most = fits }
+framable t line fits = record { line = line; most = fits }
 
 pub all_framable : (ts : List (List ℕ)) → Each IsLine ts → Each Fits ts → Each IsFramable ts
 all_framable [] lines fit = tt
