@@ -1,5 +1,5 @@
 -- What a payload does to a client is determined, up to the order of members.
-use Rattle.std.proofs.Common.{◌≡◌, ◌≢◌, ◌↔◌, ℕ, zero, suc, ◌+◌, ◌<◌, ◌⊎◌, inl, inr, List, [], ◌∷◌, ◌++◌, length, refl, sym, subst, ◌∙◌, ap, ap₂, Bool, true, false, cond, Some, None, Option, arith}
+use Rattle.std.proofs.Common.{◌≡◌, ◌≢◌, ◌↔◌, ℕ, ◌+◌, ◌<◌, ◌⊎◌, inl, inr, List, [], ◌∷◌, ◌++◌, length, refl, sym, subst, ◌∙◌, ap, ap₂, Bool, true, false, cond, Some, None, Option, arith}
 use Rattle.std.specs.Prelude.{Ok, Err, slice_get, option_map, flat_map, ◌&&◌}
 use Rattle.gql_tree.specs.declared.path.Key.{Key}
 use Rattle.gql_tree.specs.declared.path.Key.TheVariants.{Name, Index}
@@ -19,7 +19,9 @@ use Rattle.gql_tree.specs.Same.{SameFlat, SameMaybe, SameItems}
 use Rattle.gql_tree.specs.Sound.{SameContent, SameEntry, SameEntries, SamePayload}
 use Rattle.gql_tree.specs.Union.{Marks, IsUnion, Clashes, moved}
 use Rattle.gql_tree.specs.Extended.{IsLonger, IsElsewhere, IsOther, marks}
-use Rattle.gql_tree.proofs.Same.{same_length}
+use Rattle.gql_tree.proofs.Same.{same_length, items_maybe}
+use Rattle.gql_tree.proofs.Union.{union_agrees}
+use Rattle.gql_tree.proofs.Extended.{split_at}
 use Rattle.gql_tree.proofs.Moved.{key_same}
 use Rattle.gql_merge.specs.declared.state.State.{State}
 use Rattle.gql_merge.specs.declared.refusal.MergeRefusal.{MergeRefusal}
@@ -74,13 +76,6 @@ of_marks None None h = tt
 of_marks None (Some w) h = let e = h [] in absurd (cc)
 of_marks (Some v) None h = let e = h [] in absurd (cc)
 of_marks (Some v) (Some w) h = h
-
-item_marks : (xs ys : List Value) (i : ℕ) → SameItems xs ys → (q : List Key) → marks (slice_get xs i) q ≡ marks (slice_get ys i) q
-item_marks [] [] i h q = refl
-item_marks [] (y ∷ ys) i h q = absurd h
-item_marks (x ∷ xs) [] i h q = absurd h
-item_marks (x ∷ xs) (y ∷ ys) zero h q = h.0 q
-item_marks (x ∷ xs) (y ∷ ys) (suc i) h q = item_marks xs ys i h.1 q
 
 pub same_back : (s t : State) → SameState s t → SameState t s
 same_back s t h = record {
@@ -155,10 +150,6 @@ option_one (Some x) b h = sym ((h x).0 refl)
 some_one : {X : Type 0} (a : Option X) (x y : X) → a ≡ Some x → a ≡ Some y → x ≡ y
 some_one a x y e f = let g : Some x ≡ Some y = sym e ∙ f in cc
 
--- a map that has the marks of both has no clash
-fits : (whole a b : Marks) → IsUnion whole a b → Clashes a b → ⊥
-fits whole a b union (path, m, n, first, second, apart) = apart (some_one (whole path) m n ((union path m).1 (inl first)) ((union path n).1 (inr second)))
-
 unions_one : (w u a b : Marks) → IsUnion w a b → IsUnion u a b → (path : List Key) → w path ≡ u path
 unions_one w u a b first second path = option_one (w path) (u path) (λ m. (λ e. (second path m).1 ((first path m).0 e), λ e. (first path m).1 ((second path m).0 e)))
 
@@ -192,7 +183,7 @@ module _ (path : List Key) where
   grafted_not x y s t r e also same h (inl p) = p.1 (sym (marks_of s.value t.value same.value path) ∙ h.1)
   grafted_not x y s t r e also same h (inr p) =
       let there : Clashes (marks s.value) (moved path (flat y)) = subst (λ (a : Marks). Clashes a (moved path (flat y))) (sym (same_marks s t same)) p.2 in
-      fits (marks r.value) (marks s.value) (moved path (flat x)) h.2 (subst (λ (a : Marks). Clashes (marks s.value) (moved path a)) (sym (same_flat x y also)) there)
+      union_agrees (marks r.value) (marks s.value) (moved path (flat x)) h.2 (subst (λ (a : Marks). Clashes (marks s.value) (moved path a)) (sym (same_flat x y also)) there)
 
   refusals_one : (x y : Value) (s t : State) (e f : MergeRefusal) → SameState s t → GraftRefused path x s e → GraftRefused path y t f → e ≡ f
   refusals_one x y s t e f same (inl p) (inl q) = p.0 ∙ sym q.0
@@ -215,11 +206,6 @@ module _ (path : List Key) where
 abbrev Where : List Key → ℕ → List Key → Type 0
 Where path n p = (p ≡ path) ⊎ (((i : ℕ) × (q : List Key) × (p ≡ path ++ Index (n + i) ∷ q)) ⊎ IsElsewhere path n p)
 
-index_where : (n j : ℕ) → (j < n) ⊎ ((i : ℕ) × (j ≡ n + i))
-index_where zero j = inr (j, omega arith)
-index_where (suc n) zero = inl (omega arith)
-index_where (suc n) (suc j) = elim (index_where n j) [ inl h ↦ inl (omega arith) | inr p ↦ inr (p.0, omega (arith, p.1)) ]
-
 where_item : (n j : ℕ) (q : List Key) → (j < n) ⊎ ((i : ℕ) × (j ≡ n + i)) → Where [] n (Index j ∷ q)
 where_item n j q (inl h) = inr (inr ((λ e. cc), λ i r e. (let same : j ≡ n + i = cc in omega (arith, h, same))))
 where_item n j q (inr p) = inr (inl (p.0, q, ap (λ k. Index k ∷ q) p.1))
@@ -237,7 +223,7 @@ where_by false k l ks ls n e h =
 
 where_is : (path p : List Key) (n : ℕ) → Where path n p
 where_is [] [] n = inl refl
-where_is [] (Index j ∷ q) n = where_item n j q (index_where n j)
+where_is [] (Index j ∷ q) n = where_item n j q (split_at n j)
 where_is [] (Name m ∷ q) n = inr (inr ((λ e. cc), λ i r e. cc))
 where_is (k ∷ ks) [] n = inr (inr ((λ e. cc), λ i q e. cc))
 where_is (k ∷ ks) (l ∷ ls) n = where_by (same_key k l) k l ks ls n refl (where_is ks ls n)
@@ -255,7 +241,7 @@ module _ (new now old : Marks) (path : List Key) (xs ys : List Value) (also : Sa
       ap new e ∙ (a.longer ∙ (ap (λ n. Some (list n)) ends ∙ (sym b.longer ∙ sym (ap now e))))
   longer_by p (inr (inl (i, q, e))) =
       let there : now (path ++ Index (a.first + i) ∷ q) ≡ marks (slice_get ys i) q = subst (λ (n : ℕ). now (path ++ Index (n + i) ∷ q) ≡ marks (slice_get ys i) q) first_one (b.behind i q) in
-      ap new e ∙ (a.behind i q ∙ (item_marks xs ys i also q ∙ (sym there ∙ sym (ap now e))))
+      ap new e ∙ (a.behind i q ∙ (marks_of (slice_get xs i) (slice_get ys i) (items_maybe xs ys i also) q ∙ (sym there ∙ sym (ap now e))))
   longer_by p (inr (inr h)) = a.else_kept p h ∙ sym (b.else_kept p (subst (λ (n : ℕ). IsElsewhere path n p) (sym first_one) h))
 
   longer_one : (p : List Key) → new p ≡ now p

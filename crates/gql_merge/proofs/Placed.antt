@@ -7,9 +7,10 @@ use Rattle.gql_tree.specs.declared.graft.GraftRefusal.{GraftRefusal}
 use Rattle.gql_tree.specs.declared.graft.GraftRefusal.TheVariants as Graft
 use Rattle.gql_tree.specs.Flat.{Mark, null, truth, integer, text, object, list, flat}
 use Rattle.gql_tree.specs.Union.{Clashes, moved}
-use Rattle.gql_tree.specs.Extended.{IsOther, marks}
+use Rattle.gql_tree.specs.Extended.{marks}
 use Rattle.gql_merge.specs.declared.state.State.{State}
-use Rattle.gql_merge.specs.Apply.{OnRefusal, Grafts, Extends, refusal_of}
+use Rattle.gql_merge.specs.Apply.{OnRefusal, Grafts}
+use Rattle.gql_merge.specs.inner.Refused.{refusal_of}
 
 pub flat_marks : (o : Option Value) (x : Value) → o ≡ Some x → (path : List Key) → marks o path ≡ flat x path
 flat_marks o x e path = ap (λ (y : Option Value). marks y path) e
@@ -40,13 +41,3 @@ module _ (path : List Key) (s : State) (x : Value) (is : s.value ≡ Some x) whe
   graft_refused fields r Graft.Clash e place clash kind = (there r (λ f. absurd (cc)) place, subst (λ (o : Option Value). Clashes (marks o) (moved path (flat fields))) (sym is) (clash e))
   graft_refused fields r Graft.NotAList e place clash kind = kind e
   graft_refused fields r Graft.NoMemory e place clash kind = tt
-
-  pub extend_refused : (items : List Value) (r : Result (Unit {0}) GraftRefusal) (g : GraftRefusal) → r ≡ Err g
-      → (r ≡ Err Graft.NoSuchPlace) ↔ (flat x path ≡ None)
-      → (r ≡ Err Graft.NotAList) ↔ IsOther (flat x path)
-      → (r ≡ Err Graft.Clash → ⊥)
-      → OnRefusal {T = Unit {0}} (Err (refusal_of g)) (λ e. Extends path items s (Err e))
-  extend_refused items r Graft.NoSuchPlace e place kind clash = flat_marks s.value x is path ∙ place.0 e
-  extend_refused items r Graft.Clash e place kind clash = clash e
-  extend_refused items r Graft.NotAList e place kind clash = subst IsOther (sym (flat_marks s.value x is path)) (kind.0 e)
-  extend_refused items r Graft.NoMemory e place kind clash = tt

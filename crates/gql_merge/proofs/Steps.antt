@@ -33,11 +33,6 @@ module _ {S R X : Type 0} (step : X → S → Result S R → Type 0) where
   each_done xs i s h = subst (λ (ys : List X). Each step ys s (Ok s)) (sym (drop_all xs i h)) refl
 
 module _ {S R : Type 0} (a b : S → Result S R → Type 0) where
-  -- the first step leads on
-  pub then_next : (s m : S) (r : Result S R) → a s (Ok m) → b m r → Then a b s r
-  then_next s m (Ok t) h k = (m, h, k)
-  then_next s m (Err e) h k = inr (m, h, k)
-
   -- the first step isn't refused, and leads to a state of which this holds
   pub then_led : (s : S) (P : S → Type 0) (G : Type 0) (r : Result S R) → ((m : S) → a s (Ok m) → P m) → ((e : R) → a s (Err e) → ⊥) → ((m : S) → P m → b m r → G) → Then a b s r → G
   then_led s P G (Ok t) leads never next h = next h.0 (leads h.0 h.1) h.2

@@ -15,8 +15,6 @@ use Rattle.gql_tree.specs.declared.delivery.Entry.{Entry}
 use Rattle.gql_tree.specs.declared.delivery.Completed.{Completed}
 use Rattle.gql_tree.specs.declared.delivery.Content.{Content}
 use Rattle.gql_tree.specs.declared.delivery.Content.TheVariants.{Fields, Items}
-use Rattle.gql_tree.specs.declared.graft.GraftRefusal.{GraftRefusal}
-use Rattle.gql_tree.specs.declared.graft.GraftRefusal.TheVariants as Graft
 use Rattle.gql_tree.specs.Flat.{object, flat}
 use Rattle.gql_tree.specs.Union.{IsUnion, Clashes, moved}
 use Rattle.gql_tree.specs.Extended.{IsLonger, IsOther, marks}
@@ -169,13 +167,6 @@ abbrev pub Apply : Payload → State → Answer → Type 0
 Apply p = Then (Begins p) (Then (Each Announces p.pending) (Then (Each Delivers p.incremental) (Then (Each Completes p.completed) (Ends p))))
 
 -- ---- the clauses of calls
-
--- the refusal of a change at a path, for private clauses
-abbrev pub refusal_of : GraftRefusal → MergeRefusal
-refusal_of Graft.NoSuchPlace = NoSuchPlace
-refusal_of Graft.Clash = Clash
-refusal_of Graft.NotAList = NotAList
-refusal_of Graft.NoMemory = NoMemory
 
 -- a refusal other than want of memory is one of this kind
 abbrev pub OnRefusal : {T : Type 0} → Result T MergeRefusal → (MergeRefusal → Type 0) → Type 0

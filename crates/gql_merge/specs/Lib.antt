@@ -7,3 +7,4 @@ pub mod Runs
 pub mod Report
 pub mod Lone
 pub mod Merging
+pub mod inner

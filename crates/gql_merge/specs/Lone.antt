@@ -42,7 +42,6 @@ pub record IsWaiting (f : Forest) : Type 0 where
   -- the group's region
   pub makes_none : MakesNone later
   pub no_fragments : later.fragments ≡ []
-  pub is_object : (x : Value) → later.outcome ≡ Good x → flat x [] ≡ Some object
   pub fits : (x : Value) → later.outcome ≡ Good x → Clashes (flat value) (moved group.path.keys (flat x)) → ⊥
   pub blamed : later.outcome ≡ Failed → later.faults ≢ []
 

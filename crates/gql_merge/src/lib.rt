@@ -15,8 +15,6 @@ mod order;
 mod parts;
 mod refusal;
 mod state;
-#[cfg(test)]
-mod tests;
 
 pub use laws::{
     a_payload_has_one_answer, apply_all, first_payloads_are_merged, runs_from_the_start,

@@ -32,30 +32,18 @@ pub fn compare_failures(first: &Failure, second: &Failure) -> Ordering
 fn compare_maybe_paths(first: &Option<Path>, second: &Option<Path>) -> Ordering
     ensures { result ≡ option_cmp paths first.now second.now }
 {
-    match first {
-        None => match second {
-            None => Ordering::Equal,
-            Some(_) => Ordering::Less,
-        },
-        Some(first) => match second {
-            None => Ordering::Greater,
-            Some(second) => first.compare(second),
-        },
+    match (first, second) {
+        (Some(first), Some(second)) => first.compare(second),
+        _ => first.is_some().cmp(&second.is_some()),
     }
 }
 
 fn compare_labels(first: &Option<Text>, second: &Option<Text>) -> Ordering
     ensures { result ≡ option_cmp texts first.now second.now }
 {
-    match first {
-        None => match second {
-            None => Ordering::Equal,
-            Some(_) => Ordering::Less,
-        },
-        Some(first) => match second {
-            None => Ordering::Greater,
-            Some(second) => first.as_str().cmp(second.as_str()),
-        },
+    match (first, second) {
+        (Some(first), Some(second)) => first.as_str().cmp(second.as_str()),
+        _ => first.is_some().cmp(&second.is_some()),
     }
 }
 

@@ -1,5 +1,5 @@
 ghost use Rattle.std.specs.Prelude.{◌≡◌};
-ghost use Rattle.gql_merge.specs.Apply.{refusal_of};
+ghost use Rattle.gql_merge.specs.inner.Refused.{refusal_of};
 ghost use Rattle.gql_merge.specs.Refusals.{merge_name};
 
 use gql_tree::{GraftRefusal, NoMemory};

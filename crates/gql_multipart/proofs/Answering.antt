@@ -9,7 +9,7 @@ use Rattle.gql_multipart.specs.declared.read.Found.{Found}
 use Rattle.gql_multipart.specs.Body.{dashes, IsLineEnd, IsHeader, IsContent, IsOpening, IsPart, Parts, Begins, Body, Complete, IsOpen}
 use Rattle.gql_multipart.specs.Regions.{IsMarkEnd, StandsIn}
 use Rattle.gql_multipart.specs.Past.{IsLeastShut}
-use Rattle.gql_multipart.specs.Reading.{seek, content_of}
+use Rattle.gql_multipart.specs.inner.Reading.{seek, content_of}
 use Rattle.gql_multipart.proofs.Lists.{NoCr}
 use Rattle.gql_multipart.proofs.Places.{sought}
 use Rattle.gql_multipart.proofs.Readers.{Told, RowEnd}

@@ -3,7 +3,7 @@ use Rattle.std.proofs.Common.{◌≡◌, ℕ, List, [], ◌∷◌, ◌++◌, Boo
 use Rattle.std.proofs.lemmas.List.{append-nil}
 use Rattle.std.specs.List.{concat, flat_map}
 use Rattle.std.proofs.lemmas.List.Concat.{flat_map-append}
-use Rattle.gql_multipart.specs.Frame.{mark, piece, pieces, frame}
+use Rattle.gql_multipart.specs.Frame.{delimiter, piece, pieces, frame}
 use Rattle.gql_multipart.specs.Framed.{opening, closing, framed, pieces_of, at_first, so_far}
 
 -- a piece that closes nothing, and more
@@ -24,7 +24,7 @@ concat-pieces_of-frame t ts = concat-pieces_of true t ts
 -- one more piece, and more to come
 pub so_far-push : (ts : List (List ℕ)) (t : List ℕ) → so_far ts ++ framed (at_first ts) false t ≡ so_far (ts ++ t ∷ [])
 so_far-push [] t = refl
-so_far-push (s ∷ ts) t = append_assoc mark (flat_map piece (s ∷ ts)) (flat_map piece (t ∷ [])) ∙ ap (λ x. mark ++ x) (sym (flat_map-append piece (s ∷ ts) (t ∷ [])))
+so_far-push (s ∷ ts) t = append_assoc delimiter (flat_map piece (s ∷ ts)) (flat_map piece (t ∷ [])) ∙ ap (λ x. delimiter ++ x) (sym (flat_map-append piece (s ∷ ts) (t ∷ [])))
 
 pieces-push : (ts : List (List ℕ)) (t : List ℕ) → pieces (ts ++ t ∷ []) ≡ flat_map piece ts ++ (piece t ++ closing true)
 pieces-push [] t = refl
@@ -33,4 +33,4 @@ pieces-push (s ∷ ts) t = ap (λ x. piece s ++ x) (pieces-push ts t) ∙ sym (a
 -- the last piece
 pub so_far-last : (ts : List (List ℕ)) (t : List ℕ) → so_far ts ++ framed (at_first ts) true t ≡ frame (ts ++ t ∷ [])
 so_far-last [] t = refl
-so_far-last (s ∷ ts) t = append_assoc mark (flat_map piece (s ∷ ts)) (piece t ++ closing true) ∙ ap (λ x. mark ++ x) (sym (pieces-push (s ∷ ts) t))
+so_far-last (s ∷ ts) t = append_assoc delimiter (flat_map piece (s ∷ ts)) (piece t ++ closing true) ∙ ap (λ x. delimiter ++ x) (sym (pieces-push (s ∷ ts) t))

@@ -3,7 +3,7 @@ use Rattle.std.proofs.Common.{◌≡◌, ℕ, inl, inr, IsTrue, Bool, true, List
 use Rattle.std.proofs.lemmas.Bool.{eqb-false}
 use Rattle.std.proofs.lemmas.List.Elements.{recursion_from_All}
 use Rattle.std.specs.List.{AllByRecursion as Each, flat_map, list_all}
-use Rattle.gql_multipart.specs.Frame.{crlf, header, piece, pieces, frame, mark as frame_mark}
+use Rattle.gql_multipart.specs.Frame.{crlf, header, piece, pieces, frame, delimiter}
 use Rattle.gql_multipart.specs.Framed.{so_far, IsFramable}
 use Rattle.gql_multipart.specs.Body.{dashes, boundary_byte, token_byte, value_byte, HoldsNoMark, IsBoundary, IsHeader, IsPart, Parts, Body, Complete}
 use Rattle.gql_multipart.proofs.Lists.{NoCr}
@@ -26,10 +26,10 @@ pub dash_boundary : IsBoundary (codes "-")
 dash_boundary = record { least = lit≤ tt; most = lit≤ tt; bytes = (dash_byte, tt); end = dash_not_space }
 
 -- no mark stands in a line
-holds_none : (text : List ℕ) → NoCr text → ((rest : List ℕ) → text ≡ frame_mark ++ rest → ⊥) → HoldsNoMark (codes "-") text
-holds_none text n apart [] back e = let tails : text ≡ frame_mark ++ back = cc in apart back tails
+holds_none : (text : List ℕ) → NoCr text → ((rest : List ℕ) → text ≡ delimiter ++ rest → ⊥) → HoldsNoMark (codes "-") text
+holds_none text n apart [] back e = let tails : text ≡ delimiter ++ back = cc in apart back tails
 holds_none text n apart (x ∷ []) back e = cc
-holds_none text n apart (x ∷ y ∷ front) back e = let tails : text ≡ front ++ (crlf ++ (frame_mark ++ back)) = cc in no_cr_inside text front (10 ∷ (frame_mark ++ back)) n tails
+holds_none text n apart (x ∷ y ∷ front) back e = let tails : text ≡ front ++ (crlf ++ (delimiter ++ back)) = cc in no_cr_inside text front (10 ∷ (delimiter ++ back)) n tails
   where
     no_cr_inside : (text front back : List ℕ) → NoCr text → text ≡ front ++ (13 ∷ back) → ⊥
     no_cr_inside [] [] back n e = cc
@@ -56,7 +56,7 @@ framed_header = ((header ++ crlf) ∷ [], ((codes "Content-Type", codes " applic
     values = each_test value_byte (codes " application/json; charset=utf-8") refl
 
 piece_is : (t : List ℕ) → IsFramable t → IsPart (codes "-") t (piece t)
-piece_is t f = (crlf, header ++ (crlf ++ crlf), t ++ (crlf ++ frame_mark), ([], tt, omega arith, refl), framed_header, (f.most, inr (holds_none t (recursion_from_All _ t f.one_line) f.unmarked, refl)), refl)
+piece_is t f = (crlf, header ++ (crlf ++ crlf), t ++ (crlf ++ delimiter), ([], tt, omega arith, refl), framed_header, (f.most, inr (holds_none t (recursion_from_All _ t f.line.one_line) f.line.unmarked, refl)), refl)
 
 pieces_are : (ts : List (List ℕ)) (rest : List ℕ) → Each IsFramable ts → Parts (codes "-") ts rest (flat_map piece ts ++ rest)
 pieces_are [] rest each = refl
@@ -71,7 +71,7 @@ frame_is_body t ts each = (
   (λ e. absurd cc),
   crlf,
   (
-    frame_mark,
+    delimiter,
     pieces (t ∷ ts),
     ([], inl refl, refl),
     subst (λ z. Parts (codes "-") (t ∷ ts) (dashes ++ crlf) z) (sym (pieces_end (t ∷ ts))) (pieces_are (t ∷ ts) (dashes ++ crlf) each),
@@ -86,7 +86,7 @@ pub so_far_complete : (t : List ℕ) (ts : List (List ℕ)) → Each IsFramable 
 so_far_complete t ts each = (
   [],
   (
-    frame_mark,
+    delimiter,
     flat_map piece (t ∷ ts),
     ([], inl refl, refl),
     subst (λ z. Parts (codes "-") (t ∷ ts) [] z) (append-nil (flat_map piece (t ∷ ts))) (pieces_are (t ∷ ts) [] each),

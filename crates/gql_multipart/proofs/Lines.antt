@@ -3,7 +3,7 @@ use Rattle.std.proofs.Common.{◌≡◌, ℕ, inl, inr, IsTrue, Bool, true, fals
 use Rattle.std.proofs.lemmas.Bool.{eqb-false}
 use Rattle.std.proofs.lemmas.List.Elements.{recursion_from_All}
 use Rattle.std.specs.List.{AllByRecursion as Each, concat}
-use Rattle.gql_multipart.specs.Frame.{crlf, header, piece, mark as frame_mark}
+use Rattle.gql_multipart.specs.Frame.{crlf, header, piece, delimiter}
 use Rattle.gql_multipart.specs.Framed.{IsLine}
 use Rattle.gql_multipart.specs.Body.{blank_byte, token_byte, value_byte, IsLineEnd, IsHeaderLine, IsHeader, IsContent, IsPart}
 use Rattle.gql_multipart.proofs.Lists.{NoCr}
@@ -84,15 +84,15 @@ header_ended h x w (lines, each, most, is) e = lines_ended lines x w each (sym (
 -- ---- the content
 
 abbrev marked : List ℕ → List ℕ
-marked x = crlf ++ (frame_mark ++ x)
+marked x = crlf ++ (delimiter ++ x)
 
 -- the mark behind a line is the first in it
 first_mark : (u c x y : List ℕ) → NoCr u → ((front back : List ℕ) → c ≡ front ++ marked back → ⊥) → c ++ marked x ≡ u ++ marked y → (c ≡ u) × (x ≡ y)
 first_mark [] [] x y n none e = (refl, cc)
-first_mark [] (a ∷ []) x y n none e = absurd (let f : 13 ∷ (10 ∷ (frame_mark ++ x)) ≡ 10 ∷ (frame_mark ++ y) = cc in other_heads 13 10 _ _ refl f)
-first_mark [] (a ∷ b ∷ []) x y n none e = absurd (let f : 13 ∷ (10 ∷ (frame_mark ++ x)) ≡ frame_mark ++ y = cc in other_heads 13 45 _ _ refl f)
-first_mark [] (a ∷ b ∷ d ∷ []) x y n none e = absurd (let f : 13 ∷ (10 ∷ (frame_mark ++ x)) ≡ 45 ∷ 45 ∷ y = cc in other_heads 13 45 _ _ refl f)
-first_mark [] (a ∷ b ∷ d ∷ f ∷ []) x y n none e = absurd (let g : 13 ∷ (10 ∷ (frame_mark ++ x)) ≡ 45 ∷ y = cc in other_heads 13 45 _ _ refl g)
+first_mark [] (a ∷ []) x y n none e = absurd (let f : 13 ∷ (10 ∷ (delimiter ++ x)) ≡ 10 ∷ (delimiter ++ y) = cc in other_heads 13 10 _ _ refl f)
+first_mark [] (a ∷ b ∷ []) x y n none e = absurd (let f : 13 ∷ (10 ∷ (delimiter ++ x)) ≡ delimiter ++ y = cc in other_heads 13 45 _ _ refl f)
+first_mark [] (a ∷ b ∷ d ∷ []) x y n none e = absurd (let f : 13 ∷ (10 ∷ (delimiter ++ x)) ≡ 45 ∷ 45 ∷ y = cc in other_heads 13 45 _ _ refl f)
+first_mark [] (a ∷ b ∷ d ∷ f ∷ []) x y n none e = absurd (let g : 13 ∷ (10 ∷ (delimiter ++ x)) ≡ 45 ∷ y = cc in other_heads 13 45 _ _ refl g)
 first_mark [] (a ∷ b ∷ d ∷ f ∷ g ∷ c) x y n none e = absurd (none [] c (let h : a ≡ 13 = cc in let i : b ≡ 10 = cc in let j : d ≡ 45 = cc in let k : f ≡ 45 = cc in let l : g ≡ 45 = cc in cc))
 first_mark (b ∷ u) [] x y n none e = absurd (let same : b ≡ 13 = cc in n.0 same)
 first_mark (b ∷ u) (a ∷ c) x y n none e =
@@ -102,7 +102,7 @@ first_mark (b ∷ u) (a ∷ c) x y n none e =
     ((λ i. same i ∷ r.0 i), r.1)
 
 -- a line that is followed by CRLF begins with a mark itself
-pub begins_marked : (u x y : List ℕ) → frame_mark ++ x ≡ u ++ 13 ∷ y → (rest : List ℕ) × (u ≡ frame_mark ++ rest)
+pub begins_marked : (u x y : List ℕ) → delimiter ++ x ≡ u ++ 13 ∷ y → (rest : List ℕ) × (u ≡ delimiter ++ rest)
 begins_marked [] x y e = absurd (other_heads 45 13 _ _ refl e)
 begins_marked (a ∷ []) x y e = absurd (let f : 45 ∷ 45 ∷ x ≡ 13 ∷ y = cc in other_heads 45 13 _ _ refl f)
 begins_marked (a ∷ b ∷ []) x y e = absurd (let f : 45 ∷ x ≡ 13 ∷ y = cc in other_heads 45 13 _ _ refl f)
@@ -110,17 +110,17 @@ begins_marked (a ∷ b ∷ c ∷ u) x y e = (u, let h : a ≡ 45 = cc in let i :
 
 content_ended : (u c r x y : List ℕ) → IsLine u → IsContent (codes "-") c r → r ++ x ≡ u ++ marked y → (c ≡ u) × (x ≡ y)
 content_ended u c r x y line (most, inl (none, is)) e =
-    let m = begins_marked u x (10 ∷ (frame_mark ++ y)) (ap (λ z. z ++ x) (sym is) ∙ e) in
+    let m = begins_marked u x (10 ∷ (delimiter ++ y)) (ap (λ z. z ++ x) (sym is) ∙ e) in
     absurd (line.unmarked m.0 m.1)
 content_ended u c r x y line (most, inr (none, is)) e =
     first_mark u c x y (recursion_from_All _ u line.one_line) (λ front back f. none (crlf ++ front) back (ap (λ z. crlf ++ z) f))
-    (sym (append_assoc c (crlf ++ frame_mark) x) ∙ (ap (λ z. z ++ x) (sym is) ∙ e))
+    (sym (append_assoc c (crlf ++ delimiter) x) ∙ (ap (λ z. z ++ x) (sym is) ∙ e))
 
 -- ---- the part
 
 pub piece_ended : (u c part x y : List ℕ) → IsLine u → IsPart (codes "-") c part → part ++ x ≡ piece u ++ y → (c ≡ u) × (x ≡ y)
 piece_ended u c part x y line (end, head, r, ends, is_header, content, is) e =
     let whole : end ++ (head ++ (r ++ x)) ≡ crlf ++ (header ++ (crlf ++ (crlf ++ (u ++ marked y)))) =
-    sym (ap (λ z. z ++ x) is ∙ (append_assoc end (head ++ r) x ∙ ap (λ z. end ++ z) (append_assoc head r x))) ∙ (e ∙ ap (λ z. crlf ++ (header ++ (crlf ++ (crlf ++ z)))) (append_assoc u (crlf ++ frame_mark) y)) in
+    sym (ap (λ z. z ++ x) is ∙ (append_assoc end (head ++ r) x ∙ ap (λ z. end ++ z) (append_assoc head r x))) ∙ (e ∙ ap (λ z. crlf ++ (header ++ (crlf ++ (crlf ++ z)))) (append_assoc u (crlf ++ delimiter) y)) in
     let lines = line_ended end (head ++ (r ++ x)) (header ++ (crlf ++ (crlf ++ (u ++ marked y)))) ends whole in
     content_ended u c r x y line content (header_ended head (r ++ x) (u ++ marked y) is_header lines)

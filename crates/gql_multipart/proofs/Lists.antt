@@ -29,11 +29,6 @@ NoCr-take zero xs h = tt
 NoCr-take (suc n) [] h = tt
 NoCr-take (suc n) (x ∷ xs) h = (h.0, NoCr-take n xs h.1)
 
-pub NoCr-drop : (n : ℕ) (xs : List ℕ) → NoCr xs → NoCr (drop n xs)
-NoCr-drop zero xs h = h
-NoCr-drop (suc n) [] h = tt
-NoCr-drop (suc n) (x ∷ xs) h = NoCr-drop n xs h.1
-
 pub NoCr-at : (xs : List ℕ) (i : ℕ) → NoCr xs → i < length xs → get_or xs i 0 ≡ 13 → ⊥
 NoCr-at [] i h l = absurd (omega arith)
 NoCr-at (x ∷ xs) zero h l = h.0

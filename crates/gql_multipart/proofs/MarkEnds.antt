@@ -9,7 +9,7 @@ use Rattle.gql_multipart.specs.declared.read.Stop.{Stop}
 use Rattle.gql_multipart.specs.declared.read.Stop.TheVariants.{More, Ended, Refused}
 use Rattle.gql_multipart.specs.Body.{dashes, IsLineEnd, blank_byte}
 use Rattle.gql_multipart.specs.Regions.{Inside}
-use Rattle.gql_multipart.specs.Reading.{scan, closing, is_dash, mark_end}
+use Rattle.gql_multipart.specs.inner.Reading.{scan, second_dash, is_dash, mark_end}
 use Rattle.gql_multipart.proofs.Lists.{NoCr, by_test}
 use Rattle.gql_multipart.proofs.Places.{sought}
 use Rattle.gql_multipart.proofs.Scans.{ScanTold, scan_reads, scan_told, scan_inside}
@@ -27,12 +27,12 @@ InMarkEnd first kind a = (kind ≡ BadDelimiter) × Inside (BehindMark first) a
 
 -- the same by what stands behind the mark
 abbrev on_rest : List ℕ → Bool → ℕ → List ℕ → Result ℕ Stop
-on_rest m first n w = if is_dash first w then Err (closing (n + 1) (drop 1 w)) else scan m BadDelimiter (Blanks 64) n w
+on_rest m first n w = if is_dash first w then Err (second_dash (n + 1) (drop 1 w)) else scan m BadDelimiter (Blanks 64) n w
 
 mark_end_is : (m : List ℕ) (first : Bool) (pre w : List ℕ) → mark_end m first (pre ++ w) (length pre) ≡ on_rest m first (length pre) w
 unfolding mark_end
 mark_end_is m first pre w =
-    ap (λ z. if is_dash first (drop (length pre) (pre ++ w)) then Err (closing (length pre + 1) z) else scan m BadDelimiter (Blanks 64) (length pre) (drop (length pre) (pre ++ w))) (sym (drop-drop 1 (length pre) (pre ++ w)))
+    ap (λ z. if is_dash first (drop (length pre) (pre ++ w)) then Err (second_dash (length pre + 1) z) else scan m BadDelimiter (Blanks 64) (length pre) (drop (length pre) (pre ++ w))) (sym (drop-drop 1 (length pre) (pre ++ w)))
     ∙ ap (λ z. on_rest m first (length pre) z) (drop_at pre w (length pre) refl)
 
 line_first : (first : Bool) (a c : List ℕ) → IsLineEnd a → is_dash first (a ++ c) ≡ false
@@ -59,10 +59,10 @@ no_dash_other false (y ∷ a) c x b e = e
 module _ (boundary : List ℕ) (q : NoCr boundary) (first : Bool) where
   -- where no dash comes first
   on_line : (pre w : List ℕ) → is_dash first w ≡ false → mark_end (sought boundary) first (pre ++ w) (length pre) ≡ scan (sought boundary) BadDelimiter (Blanks 64) (length pre) w
-  on_line pre w e = mark_end_is (sought boundary) first pre w ∙ ap (λ t. if t then Err (closing (length pre + 1) (drop 1 w)) else scan (sought boundary) BadDelimiter (Blanks 64) (length pre) w) e
+  on_line pre w e = mark_end_is (sought boundary) first pre w ∙ ap (λ t. if t then Err (second_dash (length pre + 1) (drop 1 w)) else scan (sought boundary) BadDelimiter (Blanks 64) (length pre) w) e
 
-  on_dash : (pre w : List ℕ) → is_dash first w ≡ true → mark_end (sought boundary) first (pre ++ w) (length pre) ≡ Err (closing (length pre + 1) (drop 1 w))
-  on_dash pre w e = mark_end_is (sought boundary) first pre w ∙ ap (λ t. if t then Err (closing (length pre + 1) (drop 1 w)) else scan (sought boundary) BadDelimiter (Blanks 64) (length pre) w) e
+  on_dash : (pre w : List ℕ) → is_dash first w ≡ true → mark_end (sought boundary) first (pre ++ w) (length pre) ≡ Err (second_dash (length pre + 1) (drop 1 w))
+  on_dash pre w e = mark_end_is (sought boundary) first pre w ∙ ap (λ t. if t then Err (second_dash (length pre + 1) (drop 1 w)) else scan (sought boundary) BadDelimiter (Blanks 64) (length pre) w) e
 
   abbrev EndTold : List ℕ → List ℕ → Result ℕ Stop → Type 0
   EndTold pre w s = Told (mark_end (sought boundary) first) (EndOf IsLineEnd) (Closes first) (InMarkEnd first) pre w s
@@ -86,7 +86,7 @@ module _ (boundary : List ℕ) (q : NoCr boundary) (first : Bool) where
         (λ x. on_line pre (a ++ (b ∷ x)) (no_dash_other first a c x b here) ∙ behind x),
       )
 
-  dash_told : (pre w : List ℕ) → first ≡ false → is_dash first (45 ∷ w) ≡ true → EndTold pre (45 ∷ w) (Err (closing (length pre + 1) w))
+  dash_told : (pre w : List ℕ) → first ≡ false → is_dash first (45 ∷ w) ≡ true → EndTold pre (45 ∷ w) (Err (second_dash (length pre + 1) w))
   dash_told pre [] f e = (45 ∷ [], inr (f, refl))
   dash_told pre (y ∷ w) f e =
       by_test (λ s. EndTold pre (45 ∷ y ∷ w) (Err s)) (y == 45) Ended (Refused BadDelimiter ((length pre + 1) + 1))

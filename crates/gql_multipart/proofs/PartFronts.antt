@@ -8,7 +8,7 @@ use Rattle.gql_multipart.proofs.PartLists.{parts_front, parts_split, begins_more
 use Rattle.gql_multipart.proofs.Answering.{one_of}
 use Rattle.gql_multipart.proofs.Standing.{quiet}
 use Rattle.gql_multipart.proofs.Unique.{parts_one}
-use Rattle.gql_multipart.proofs.Sayings.{front_open}
+use Rattle.gql_multipart.proofs.Sayings.{take_open}
 
 module _ (boundary : List ℕ) where
   -- parts stay complete as more bytes come
@@ -58,4 +58,4 @@ module _ (boundary : List ℕ) where
 
   -- no body begins with the bytes
   pub shut_whole : (bytes : List ℕ) (byte : ℕ) → IsLeastShut boundary bytes byte → IsOpen boundary bytes → ⊥
-  shut_whole bytes byte s opens = s.shut (front_open boundary bytes byte opens)
+  shut_whole bytes byte s opens = s.shut (take_open boundary bytes byte opens)

@@ -8,7 +8,7 @@ use Rattle.gql_multipart.specs.declared.place.Place.{Place}
 use Rattle.gql_multipart.specs.declared.place.Place.TheVariants.{Line, Name, Value, FieldFeed, LastFeed}
 use Rattle.gql_multipart.specs.declared.place.Moved.TheVariants.{Go, Whole, Bad}
 use Rattle.gql_multipart.specs.Body.{mark, token_byte, value_byte, IsHeaderLine}
-use Rattle.gql_multipart.specs.Reading.{IsShort, spend, bar, clashes, name_need, named, valued, line_step, name_step, value_step, feed_step}
+use Rattle.gql_multipart.specs.inner.Reading.{IsShort, spend, bar, clashes, name_need, named, valued, line_step, name_step, value_step, feed_step}
 use Rattle.gql_multipart.proofs.Lists.{by_test, from_test, NoCr}
 use Rattle.gql_multipart.proofs.Places.{sought, Avoids, NameRest, ValueRest, Completes, Moves, cc_heads, bar_on, bar_back, no_clash, Avoids-crlf}
 

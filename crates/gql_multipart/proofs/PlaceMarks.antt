@@ -6,7 +6,7 @@ use Rattle.gql_multipart.specs.Frame.{crlf}
 use Rattle.gql_multipart.specs.declared.place.Place.TheVariants.{Mark, Blanks, LastFeed}
 use Rattle.gql_multipart.specs.declared.place.Moved.TheVariants.{Go, Whole, Bad}
 use Rattle.gql_multipart.specs.Body.{blank_byte}
-use Rattle.gql_multipart.specs.Reading.{mark_step, matched_step, missed as missed_step, spend, blank_step}
+use Rattle.gql_multipart.specs.inner.Reading.{mark_step, matched_step, missed as missed_step, spend, blank_step}
 use Rattle.gql_multipart.proofs.Lists.{by_test, from_test, NoCr}
 use Rattle.gql_multipart.proofs.Seeking.{Finds, missed, unmissed, taken, found_first, strip, unstrip}
 use Rattle.gql_multipart.proofs.Places.{sought, Completes, Moves, quiet_tail, cc_heads}

@@ -9,7 +9,7 @@ use Rattle.gql_multipart.specs.declared.place.Place.TheVariants.{Mark, Blanks, L
 use Rattle.gql_multipart.specs.declared.place.Moved.{Moved}
 use Rattle.gql_multipart.specs.declared.place.Moved.TheVariants.{Go, Whole, Bad}
 use Rattle.gql_multipart.specs.Body.{mark, blank_byte, token_byte, value_byte, IsHeaderLine}
-use Rattle.gql_multipart.specs.Reading.{IsShort, bar, clashes}
+use Rattle.gql_multipart.specs.inner.Reading.{IsShort, bar, clashes}
 use Rattle.gql_multipart.proofs.Lists.{by_test, from_test, NoCr, NoCr-at}
 use Rattle.gql_multipart.proofs.Seeking.{Finds}
 
@@ -57,10 +57,6 @@ abbrev pub Moves : List ℕ → List ℕ → Moved → Type 0
 Moves boundary w (Go place) = Completes boundary place w
 Moves boundary w Whole = w ≡ []
 Moves boundary w Bad = ⊥
-
--- no byte of a mark is CR
-abbrev pub Quiet : List ℕ → Type 0
-Quiet = NoCr
 
 pub quiet_tail : (boundary : List ℕ) → NoCr boundary → NoCr (10 ∷ 45 ∷ 45 ∷ boundary)
 quiet_tail boundary n = ((λ e. absurd cc), ((λ e. absurd cc), ((λ e. absurd cc), n)))

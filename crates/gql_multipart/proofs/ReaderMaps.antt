@@ -3,7 +3,7 @@ use Rattle.std.proofs.Common.{◌≡◌, ℕ, inl, inr, List, ◌++◌, length, 
 use Rattle.gql_multipart.specs.declared.refusal.FrameKind.{FrameKind}
 use Rattle.gql_multipart.specs.declared.read.Stop.{Stop}
 use Rattle.gql_multipart.specs.declared.read.Stop.TheVariants.{More, Ended, Refused}
-use Rattle.gql_multipart.specs.Reading.{◌>>=◌}
+use Rattle.gql_multipart.specs.inner.Reading.{◌>>=◌}
 use Rattle.gql_multipart.proofs.Readers.{Reader, Told, Reads}
 
 module _ {A B : Type 0} (f : Reader A) (W : ℕ → List ℕ → A → Type 0) (E : List ℕ → Type 0) (R : FrameKind → List ℕ → Type 0) (h : ℕ → A → B) (hf : Reads f W E R) where

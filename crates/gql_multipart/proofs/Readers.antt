@@ -6,7 +6,7 @@ use Rattle.gql_multipart.specs.declared.place.Place.{Place}
 use Rattle.gql_multipart.specs.declared.read.Stop.{Stop}
 use Rattle.gql_multipart.specs.declared.read.Stop.TheVariants.{More, Ended, Refused}
 use Rattle.gql_multipart.specs.Regions.{Inside}
-use Rattle.gql_multipart.specs.Reading.{scan, region, ◌>>=◌}
+use Rattle.gql_multipart.specs.inner.Reading.{scan, region, ◌>>=◌}
 use Rattle.gql_multipart.proofs.Lists.{NoCr}
 use Rattle.gql_multipart.proofs.Places.{sought, Completes}
 use Rattle.gql_multipart.proofs.Scans.{Alive, ScanTold, scan_reads, scan_told, scan_inside}

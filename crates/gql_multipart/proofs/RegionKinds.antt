@@ -7,7 +7,7 @@ use Rattle.gql_multipart.specs.declared.read.Stop.{Stop}
 use Rattle.gql_multipart.specs.declared.read.Stop.TheVariants.{Ended}
 use Rattle.gql_multipart.specs.Body.{IsLineEnd, IsHeader, IsContent, IsOpening, IsPart, Parts, Begins}
 use Rattle.gql_multipart.specs.Regions.{Inside, IsMarkEnd, IsSomeContent, StandsIn}
-use Rattle.gql_multipart.specs.Reading.{region, mark_end}
+use Rattle.gql_multipart.specs.inner.Reading.{region, mark_end}
 use Rattle.gql_multipart.proofs.Lists.{NoCr}
 use Rattle.gql_multipart.proofs.Places.{sought}
 use Rattle.gql_multipart.proofs.Readers.{Reader, Told, Reads, EndOf, Nothing, Within}

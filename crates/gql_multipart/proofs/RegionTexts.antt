@@ -89,9 +89,6 @@ header_back boundary t (lines, each, l, e) = (lines, each, omega arith, e)
 
 -- ---- what each region at least has
 
-pub some_opening : (boundary : List ℕ) → IsOpening boundary (mark boundary)
-some_opening boundary = ([], inl refl, refl)
-
 pub some_content : (boundary : List ℕ) → IsContent boundary [] (mark boundary)
 some_content boundary = (omega arith, inl (refl, refl))
 

@@ -8,8 +8,8 @@ use Rattle.gql_multipart.proofs.Answering.{one_of}
 use Rattle.gql_multipart.proofs.Unique.{content_one}
 use Rattle.gql_multipart.proofs.RegionKinds.{kind_one}
 
-pub front_open : (boundary bytes : List ℕ) (k : ℕ) → IsOpen boundary bytes → IsOpen boundary (take k bytes)
-front_open boundary bytes k (rest, contents, body) =
+pub take_open : (boundary bytes : List ℕ) (k : ℕ) → IsOpen boundary bytes → IsOpen boundary (take k bytes)
+take_open boundary bytes k (rest, contents, body) =
     (drop k bytes ++ rest, contents, subst (λ z. Body boundary z contents) (ap (λ z. z ++ rest) (sym (take-append-drop k bytes)) ∙ append_assoc (take k bytes) (drop k bytes) rest) body)
 
 body_open : (boundary bytes : List ℕ) (contents : List (List ℕ)) → Body boundary bytes contents → IsOpen boundary bytes
@@ -40,16 +40,16 @@ answers_one past valid (gives c) no_memory a b = absurd b
 answers_one past valid more (gives d) a (before, b, l) = absurd (one_more past before d b l a.0)
 answers_one past valid more more a b = refl
 answers_one past valid more ended a b = absurd (a.2 b.1 b.2)
-answers_one past valid more (refuses kind byte) a b = absurd (b.1.shut (front_open past.boundary past.bytes byte a.1))
+answers_one past valid more (refuses kind byte) a b = absurd (b.1.shut (take_open past.boundary past.bytes byte a.1))
 answers_one past valid more no_memory a b = absurd b
 answers_one past valid ended (gives d) a (before, b, l) = absurd (one_more past before d b l a.0)
 answers_one past valid ended more a b = absurd (b.2 a.1 a.2)
 answers_one past valid ended ended a b = refl
-answers_one past valid ended (refuses kind byte) a b = absurd (b.1.shut (front_open past.boundary past.bytes byte (body_open past.boundary past.bytes a.1 a.2)))
+answers_one past valid ended (refuses kind byte) a b = absurd (b.1.shut (take_open past.boundary past.bytes byte (body_open past.boundary past.bytes a.1 a.2)))
 answers_one past valid ended no_memory a b = absurd b
 answers_one past valid (refuses kind byte) (gives d) a (before, b, l) = absurd (one_more past before d b l a.0)
-answers_one past valid (refuses kind byte) more a b = absurd (a.1.shut (front_open past.boundary past.bytes byte b.1))
-answers_one past valid (refuses kind byte) ended a b = absurd (a.1.shut (front_open past.boundary past.bytes byte (body_open past.boundary past.bytes b.1 b.2)))
+answers_one past valid (refuses kind byte) more a b = absurd (a.1.shut (take_open past.boundary past.bytes byte b.1))
+answers_one past valid (refuses kind byte) ended a b = absurd (a.1.shut (take_open past.boundary past.bytes byte (body_open past.boundary past.bytes b.1 b.2)))
 answers_one past valid (refuses kind byte) (refuses other c) a b =
     let same : byte ≡ c = least_one past.boundary past.bytes byte c a.1 b.1 in
     let P : ℕ → Type 0 = λ n. StandsIn past.boundary kind (take (n - 1) past.bytes) in

@@ -13,7 +13,7 @@ use Rattle.gql_multipart.specs.declared.read.Stop.{Stop}
 use Rattle.gql_multipart.specs.declared.read.Stop.TheVariants.{More, Ended, Refused}
 use Rattle.gql_multipart.specs.Body.{mark}
 use Rattle.gql_multipart.specs.Regions.{Inside}
-use Rattle.gql_multipart.specs.Reading.{IsShort, IsAlive, step, matched_step, missed, spend, bar, clashes, name_need, named, valued, went, scan}
+use Rattle.gql_multipart.specs.inner.Reading.{IsShort, IsAlive, step, matched_step, missed, spend, bar, clashes, name_need, named, valued, went, scan}
 use Rattle.gql_multipart.proofs.Lists.{by_test, from_test, NoCr, NoCr-at}
 use Rattle.gql_multipart.proofs.Seeking.{Finds}
 use Rattle.gql_multipart.proofs.Places.{sought, Avoids, Completes, Moves, bar_short, cc_heads, quiet_tail, Avoids-crlf}

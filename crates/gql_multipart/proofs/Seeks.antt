@@ -7,7 +7,7 @@ use Rattle.gql_multipart.specs.declared.place.Place.TheVariants.{Mark, Line}
 use Rattle.gql_multipart.specs.declared.read.Found.{Found}
 use Rattle.gql_multipart.specs.Body.{mark, IsLineEnd, IsHeader, IsContent, IsOpening}
 use Rattle.gql_multipart.specs.Regions.{Inside, IsSomeContent}
-use Rattle.gql_multipart.specs.Reading.{region, mark_end, part_end, ◌>>=◌}
+use Rattle.gql_multipart.specs.inner.Reading.{region, mark_end, part_end, ◌>>=◌}
 use Rattle.gql_multipart.proofs.Lists.{NoCr}
 use Rattle.gql_multipart.proofs.Places.{sought, Completes}
 use Rattle.gql_multipart.proofs.Readers.{Reader, Reads, EndOf, Nothing, Within, in_row, RowWhole, RowEnd, RowWithin, region_reads, row_reads}

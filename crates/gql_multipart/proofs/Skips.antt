@@ -6,7 +6,7 @@ use Rattle.gql_multipart.specs.declared.refusal.FrameKind.TheVariants.{BadPreamb
 use Rattle.gql_multipart.specs.declared.place.Place.TheVariants.{Mark}
 use Rattle.gql_multipart.specs.declared.read.Found.{Found}
 use Rattle.gql_multipart.specs.Body.{dashes, mark, IsOpening, IsPart, Parts}
-use Rattle.gql_multipart.specs.Reading.{region, part_end, part_next, skip, seek}
+use Rattle.gql_multipart.specs.inner.Reading.{region, part_end, part_next, skip, seek}
 use Rattle.gql_multipart.proofs.Lists.{NoCr}
 use Rattle.gql_multipart.proofs.Places.{sought}
 use Rattle.gql_multipart.proofs.Readers.{Reader, Reads, EndOf, Nothing, Within, in_row, RowWhole, RowEnd, RowWithin, row_reads}

@@ -9,7 +9,7 @@ use Rattle.gql_multipart.specs.declared.read.Stop.{Stop}
 use Rattle.gql_multipart.specs.declared.read.Found.{Found}
 use Rattle.gql_multipart.specs.declared.place.Moved.{Moved}
 use Rattle.gql_multipart.specs.declared.place.Moved.TheVariants.{Go}
-use Rattle.gql_multipart.specs.Reading.{IsAlive, step, scan, went, region, closing, is_dash, mark_end, part_end, skip, ◌>>=◌}
+use Rattle.gql_multipart.specs.inner.Reading.{IsAlive, step, scan, went, region, second_dash, is_dash, mark_end, part_end, skip, ◌>>=◌}
 use Rattle.gql_multipart.proofs.Scans.{StaysAlive, step_alive}
 
 pub go_alive : (m : List ℕ) (place : Place) (b : ℕ) (r : Moved) (q : Place) → 2 < length m → IsAlive m place → r ≡ step m place b → r ≡ Go q → IsAlive m q
@@ -23,14 +23,14 @@ scan_go m kind place b r q i bytes e g byte l =
 
 -- ---- behind a mark
 
-pub mark_end_dash : (m : List ℕ) (first : Bool) (bytes : List ℕ) (at : ℕ) (s : Stop) → first ≡ false → at < length bytes → get_or bytes at 0 ≡ 45 → s ≡ closing (at + 1) (drop (at + 1) bytes) → Err s ≡ mark_end m first bytes at
+pub mark_end_dash : (m : List ℕ) (first : Bool) (bytes : List ℕ) (at : ℕ) (s : Stop) → first ≡ false → at < length bytes → get_or bytes at 0 ≡ 45 → s ≡ second_dash (at + 1) (drop (at + 1) bytes) → Err s ≡ mark_end m first bytes at
 unfolding mark_end
 mark_end_dash m first bytes at s f l dash e =
-    ap (λ z. Err z) e ∙ sym (ap (λ t. if t then Err (closing (at + 1) (drop (at + 1) bytes)) else region m BadDelimiter (Blanks 64) bytes at) (ap₂ is_dash f (drop_more bytes at 0 l) ∙ eq-eqb (get_or bytes at 0) 45 dash))
+    ap (λ z. Err z) e ∙ sym (ap (λ t. if t then Err (second_dash (at + 1) (drop (at + 1) bytes)) else region m BadDelimiter (Blanks 64) bytes at) (ap₂ is_dash f (drop_more bytes at 0 l) ∙ eq-eqb (get_or bytes at 0) 45 dash))
 
 pub mark_end_line : (m : List ℕ) (first : Bool) (bytes : List ℕ) (at : ℕ) → is_dash first (drop at bytes) ≡ false → region m BadDelimiter (Blanks 64) bytes at ≡ mark_end m first bytes at
 unfolding mark_end
-mark_end_line m first bytes at e = sym (ap (λ t. if t then Err (closing (at + 1) (drop (at + 1) bytes)) else region m BadDelimiter (Blanks 64) bytes at) e)
+mark_end_line m first bytes at e = sym (ap (λ t. if t then Err (second_dash (at + 1) (drop (at + 1) bytes)) else region m BadDelimiter (Blanks 64) bytes at) e)
 
 pub no_dash_first : (first : Bool) (rest : List ℕ) → first ≡ true → is_dash first rest ≡ false
 no_dash_first first rest e = ap (λ t. is_dash t rest) e

@@ -3,7 +3,7 @@ use Rattle.std.proofs.Common.{◌≡◌, ℕ, ◌<◌, List, [], ◌∷◌, ◌+
 use Rattle.std.proofs.lemmas.List.{get_or_at}
 use Rattle.gql_multipart.specs.declared.read.Stop.TheVariants.{Ended}
 use Rattle.gql_multipart.specs.Body.{dashes, Begins, Body, Complete}
-use Rattle.gql_multipart.specs.Reading.{content_of}
+use Rattle.gql_multipart.specs.inner.Reading.{content_of}
 use Rattle.gql_multipart.proofs.Lists.{NoCr}
 use Rattle.gql_multipart.proofs.Places.{sought}
 use Rattle.gql_multipart.proofs.PartLists.{parts_split, at_place}

@@ -1,6 +1,6 @@
 -- Multipart bodies, by cases on their bytes.
 -- Source: multipart bodies of RFC 2046, section 5.1.1, as a profile: header lines are not unfolded, a
--- part needs no header line, and each piece of a body has a limit. Limits are counted in bytes.
+-- part needs no header line, and each region of a body has a limit. Limits are counted in bytes.
 use Rattle.std.specs.Prelude.{◌≡◌, ◌≢◌, ℕ, ◌≤◌, List, [], ◌∷◌, ◌++◌, length, codes, Bool, ◌||◌, ◌==◌, not, IsTrue, ◌⊎◌}
 use Rattle.std.specs.List.{AllByRecursion as Each, concat, list_any}
 use Rattle.std.specs.Char.{is_ascii_alphanumeric}

@@ -7,23 +7,23 @@ use Rattle.std.specs.Prelude.{ℕ, List, [], ◌∷◌, ◌++◌, codes}
 abbrev pub crlf : List ℕ
 crlf = 13 ∷ 10 ∷ []
 
--- two dashes and the boundary
-abbrev pub mark : List ℕ
-mark = codes "---"
+-- the delimiter: two dashes and the boundary
+abbrev pub delimiter : List ℕ
+delimiter = codes "---"
 
 -- the header field of a part
 abbrev pub header : List ℕ
 header = codes "Content-Type: application/json; charset=utf-8"
 
--- what stands from one mark to the end of the next: a header, an empty line, and the text
+-- what stands from one delimiter to the end of the next: a header, an empty line, and the text
 abbrev pub piece : List ℕ → List ℕ
-piece t = crlf ++ (header ++ (crlf ++ (crlf ++ (t ++ (crlf ++ mark)))))
+piece t = crlf ++ (header ++ (crlf ++ (crlf ++ (t ++ (crlf ++ delimiter)))))
 
--- a piece for each text; the last mark is closed by two dashes
+-- a piece for each text; the last delimiter is closed by two dashes
 abbrev pub pieces : List (List ℕ) → List ℕ
 pieces [] = codes "--" ++ crlf
 pieces (t ∷ ts) = piece t ++ pieces ts
 
 -- the body
 abbrev pub frame : List (List ℕ) → List ℕ
-frame ts = mark ++ pieces ts
+frame ts = delimiter ++ pieces ts

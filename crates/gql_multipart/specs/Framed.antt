@@ -1,18 +1,18 @@
 -- The piece of one text in a multipart body, and the pieces of a whole body.
 use Rattle.std.specs.Prelude.{ℕ, List, [], ◌∷◌, ◌++◌, flat_map, Bool, true, false, codes, ◌≡◌, ◌≢◌, ◌<◌, ◌≤◌, All, length}
-use Rattle.gql_multipart.specs.Frame.{mark, piece, crlf}
+use Rattle.gql_multipart.specs.Frame.{delimiter, piece, crlf}
 
 -- what stands before the first piece
 abbrev pub opening : Bool → List ℕ
-opening true = mark
+opening true = delimiter
 opening false = []
 
--- what closes the mark of the last piece
+-- what closes the delimiter of the last piece
 abbrev pub closing : Bool → List ℕ
 closing true = codes "--" ++ crlf
 closing false = []
 
--- one piece: a mark comes before it where it is the first, its own mark is closed where it is the last
+-- one piece: a delimiter comes before it where it is the first, its own delimiter is closed where it is the last
 abbrev pub framed : Bool → Bool → List ℕ → List ℕ
 framed first last text = opening first ++ (piece text ++ closing last)
 
@@ -32,18 +32,17 @@ at_first (t ∷ ts) = false
 -- what has been sent where these texts were sent and more will come
 abbrev pub so_far : List (List ℕ) → List ℕ
 so_far [] = []
-so_far (t ∷ ts) = mark ++ flat_map piece (t ∷ ts)
+so_far (t ∷ ts) = delimiter ++ flat_map piece (t ∷ ts)
 
--- a text that a reader finds again: it is one line, doesn't begin with a mark and isn't too long
-pub record IsFramable (text : List ℕ) : Type 0 where
-  pub one_line : All (λ b. b ≢ 13) text
-  pub unmarked : (rest : List ℕ) → text ≡ mark ++ rest → ⊥
-  pub most : length text ≤ 67108864
-
--- a text that is one line and doesn't begin with a mark, however long it is
+-- a text that is one line and doesn't begin with a delimiter, however long it is
 pub record IsLine (text : List ℕ) : Type 0 where
   pub one_line : All (λ b. b ≢ 13) text
-  pub unmarked : (rest : List ℕ) → text ≡ mark ++ rest → ⊥
+  pub unmarked : (rest : List ℕ) → text ≡ delimiter ++ rest → ⊥
+
+-- such a text that isn't too long: a reader finds it again
+pub record IsFramable (text : List ℕ) : Type 0 where
+  pub line : IsLine text
+  pub most : length text ≤ 67108864
 
 -- such a text that is too long to be framed
 pub record IsLongLine (text : List ℕ) : Type 0 where

@@ -4,4 +4,4 @@ pub mod Framed
 pub mod Body
 pub mod Regions
 pub mod Past
-pub mod Reading
+pub mod inner

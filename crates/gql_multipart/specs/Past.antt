@@ -22,17 +22,17 @@ abbrev pub begun : List ℕ → Past
 begun boundary = record { boundary = boundary; bytes = []; given = 0 }
 
 abbrev pub fed : Past → List ℕ → Past
-fed past piece = record past { bytes = past.bytes ++ piece }
+fed past cut = record past { bytes = past.bytes ++ cut }
 
--- what a reader keeps: CRLF and the mark, all bytes, and how many parts it gave
+-- what a reader keeps: CRLF and the mark, which it seeks, all bytes, and how many parts it gave
 pub record Kept : Type 0 where
-  pub mark : List ℕ
+  pub sought : List ℕ
   pub bytes : List ℕ
   pub given : ℕ
 
 pub record Stands (kept : Kept) (past : Past) : Type 0 where
   pub boundary : IsBoundary past.boundary
-  pub mark : kept.mark ≡ crlf ++ mark past.boundary
+  pub sought : kept.sought ≡ crlf ++ mark past.boundary
   pub bytes : kept.bytes ≡ past.bytes
   pub given : kept.given ≡ past.given
 

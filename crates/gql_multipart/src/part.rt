@@ -9,8 +9,8 @@ use std::alloc::Global;
 /// What is sent for one text, where the boundary is `-`.
 ///
 /// Takes the text, and whether it is the first and the last of its body. Gives its part with the
-/// mark that follows it: where it is the first the mark `---` comes before it, and where it is the
-/// last its mark is closed by `--` and an end of line. Refuses only for want of memory.
+/// delimiter that follows it: where it is the first the delimiter `---` comes before it, and where it
+/// is the last its delimiter is closed by `--` and an end of line. Refuses only for want of memory.
 pub fn frame(alloc: Global, json: &[u8], first: bool, last: bool) -> Result<Bytes, NoMemory>
     ensures { IfOk result (λ bytes. bytes ≡ framed first last json.now) }
 {
@@ -23,14 +23,14 @@ pub fn frame(alloc: Global, json: &[u8], first: bool, last: bool) -> Result<Byte
     Ok(Bytes::from_vec(piece))
 }
 
-/// The mark before the first piece.
+/// The delimiter before the first piece.
 fn opening(first: bool) -> &'static [u8]
     ensures { result.now ≡ opening first }
 {
     if first { b"---" } else { b"" }
 }
 
-/// What closes the last mark.
+/// What closes the last delimiter.
 fn closing(last: bool) -> &'static [u8]
     ensures { result.now ≡ closing last }
 {

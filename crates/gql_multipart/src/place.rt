@@ -11,7 +11,7 @@
 //! come can't fit into this room.
 
 ghost use Rattle.std.specs.Prelude.{◌≡◌, ◌+◌, ◌<◌, length};
-ghost use Rattle.gql_multipart.specs.Reading.{IsAlive, IsShort, step, mark_step, missed, matched_step, blank_step, line_step, name_step, value_step, bar, feed_step, named, valued, clashes, name_need};
+ghost use Rattle.gql_multipart.specs.inner.Reading.{IsAlive, IsShort, step, mark_step, missed, matched_step, blank_step, line_step, name_step, value_step, bar, feed_step, named, valued, clashes, name_need};
 
 use crate::bytes::{byte_at, is_blank, is_token, is_value};
 
@@ -45,18 +45,18 @@ pub(crate) enum Moved {
     Bad,
 }
 
-/// One byte. `mark` is CRLF and the mark.
-pub(crate) fn step(mark: &[u8], place: Place, byte: u8) -> Moved
-    requires mark { 2 < length mark.now }
-    requires place { IsAlive mark.now place }
-    ensures { result ≡ step mark.now place byte }
+/// One byte. What is sought is CRLF and the mark.
+pub(crate) fn step(sought: &[u8], place: Place, byte: u8) -> Moved
+    requires sought { 2 < length sought.now }
+    requires place { IsAlive sought.now place }
+    ensures { result ≡ step sought.now place byte }
 {
     match place {
-        Place::Mark { room, matched } => mark_step(mark, room, matched, byte),
+        Place::Mark { room, matched } => mark_step(sought, room, matched, byte),
         Place::Blanks { room } => blank_step(room, byte),
-        Place::Line { room } => line_step(mark, room, byte),
-        Place::Name { room, barred } => name_step(mark, room, barred, byte),
-        Place::Value { room, barred } => value_step(mark, room, barred, byte),
+        Place::Line { room } => line_step(sought, room, byte),
+        Place::Name { room, barred } => name_step(sought, room, barred, byte),
+        Place::Value { room, barred } => value_step(sought, room, barred, byte),
         Place::FieldFeed { room } => feed_step(room, byte),
         Place::LastFeed => {
             if byte == b'\n' {
@@ -68,12 +68,12 @@ pub(crate) fn step(mark: &[u8], place: Place, byte: u8) -> Moved
     }
 }
 
-fn mark_step(mark: &[u8], room: usize, matched: usize, byte: u8) -> Moved
-    requires { matched < length mark.now }
-    ensures { result ≡ mark_step mark.now room matched byte }
+fn mark_step(sought: &[u8], room: usize, matched: usize, byte: u8) -> Moved
+    requires { matched < length sought.now }
+    ensures { result ≡ mark_step sought.now room matched byte }
 {
-    if mark[matched] == byte {
-        return matched_step(mark, room, matched);
+    if sought[matched] == byte {
+        return matched_step(sought, room, matched);
     }
     if byte == b'\r' {
         missed(room, matched, 1)
@@ -82,11 +82,11 @@ fn mark_step(mark: &[u8], room: usize, matched: usize, byte: u8) -> Moved
     }
 }
 
-fn matched_step(mark: &[u8], room: usize, matched: usize) -> Moved
-    requires { matched < length mark.now }
-    ensures { result ≡ matched_step mark.now room matched }
+fn matched_step(sought: &[u8], room: usize, matched: usize) -> Moved
+    requires { matched < length sought.now }
+    ensures { result ≡ matched_step sought.now room matched }
 {
-    if matched + 1 == mark.len() {
+    if matched + 1 == sought.len() {
         return Moved::Whole;
     }
     Moved::Go(Place::Mark {
@@ -119,9 +119,9 @@ fn blank_step(room: usize, byte: u8) -> Moved
     Moved::Go(Place::Blanks { room: room - 1 })
 }
 
-fn line_step(mark: &[u8], room: usize, byte: u8) -> Moved
-    requires { 2 < length mark.now }
-    ensures { result ≡ line_step mark.now room byte }
+fn line_step(sought: &[u8], room: usize, byte: u8) -> Moved
+    requires { 2 < length sought.now }
+    ensures { result ≡ line_step sought.now room byte }
 {
     if byte == b'\r' {
         return Moved::Go(Place::LastFeed);
@@ -129,25 +129,25 @@ fn line_step(mark: &[u8], room: usize, byte: u8) -> Moved
     if !is_token(byte) {
         return Moved::Bad;
     }
-    named(mark, room, bar(mark, Some(2), byte))
+    named(sought, room, bar(sought, Some(2), byte))
 }
 
-fn name_step(mark: &[u8], room: usize, barred: Option<usize>, byte: u8) -> Moved
-    requires { IsShort mark.now barred }
-    ensures { result ≡ name_step mark.now room barred byte }
+fn name_step(sought: &[u8], room: usize, barred: Option<usize>, byte: u8) -> Moved
+    requires { IsShort sought.now barred }
+    ensures { result ≡ name_step sought.now room barred byte }
 {
     if byte == b':' {
-        return valued(mark, room, bar(mark, barred, byte));
+        return valued(sought, room, bar(sought, barred, byte));
     }
     if !is_token(byte) {
         return Moved::Bad;
     }
-    named(mark, room, bar(mark, barred, byte))
+    named(sought, room, bar(sought, barred, byte))
 }
 
-fn value_step(mark: &[u8], room: usize, barred: Option<usize>, byte: u8) -> Moved
-    requires { IsShort mark.now barred }
-    ensures { result ≡ value_step mark.now room barred byte }
+fn value_step(sought: &[u8], room: usize, barred: Option<usize>, byte: u8) -> Moved
+    requires { IsShort sought.now barred }
+    ensures { result ≡ value_step sought.now room barred byte }
 {
     if byte == b'\r' {
         if room < 2 {
@@ -158,7 +158,7 @@ fn value_step(mark: &[u8], room: usize, barred: Option<usize>, byte: u8) -> Move
     if !is_value(byte) {
         return Moved::Bad;
     }
-    valued(mark, room, bar(mark, barred, byte))
+    valued(sought, room, bar(sought, barred, byte))
 }
 
 fn feed_step(room: usize, byte: u8) -> Moved
@@ -171,13 +171,13 @@ fn feed_step(room: usize, byte: u8) -> Moved
 }
 
 /// How much of CRLF and a mark there is with one more byte.
-fn bar(mark: &[u8], barred: Option<usize>, byte: u8) -> Option<usize>
-    requires { IsShort mark.now barred }
-    ensures { result ≡ bar mark.now barred byte }
+fn bar(sought: &[u8], barred: Option<usize>, byte: u8) -> Option<usize>
+    requires { IsShort sought.now barred }
+    ensures { result ≡ bar sought.now barred byte }
 {
     match barred {
         Some(matched) => {
-            if mark[matched] == byte {
+            if sought[matched] == byte {
                 Some(matched + 1)
             } else {
                 None
@@ -187,20 +187,20 @@ fn bar(mark: &[u8], barred: Option<usize>, byte: u8) -> Option<usize>
     }
 }
 
-fn clashes(mark: &[u8], barred: Option<usize>) -> bool
-    ensures { result ≡ clashes mark.now barred }
+fn clashes(sought: &[u8], barred: Option<usize>) -> bool
+    ensures { result ≡ clashes sought.now barred }
 {
     match barred {
-        Some(matched) => matched == mark.len(),
+        Some(matched) => matched == sought.len(),
         None => false,
     }
 }
 
 /// In a name. Behind it at least a colon and CRLF must come.
-fn named(mark: &[u8], room: usize, barred: Option<usize>) -> Moved
-    ensures { result ≡ named mark.now room barred }
+fn named(sought: &[u8], room: usize, barred: Option<usize>) -> Moved
+    ensures { result ≡ named sought.now room barred }
 {
-    if clashes(mark, barred) || room < name_need(mark, barred) + 1 {
+    if clashes(sought, barred) || room < name_need(sought, barred) + 1 {
         return Moved::Bad;
     }
     Moved::Go(Place::Name {
@@ -210,10 +210,10 @@ fn named(mark: &[u8], room: usize, barred: Option<usize>) -> Moved
 }
 
 /// In a value. Behind it at least CRLF must come.
-fn valued(mark: &[u8], room: usize, barred: Option<usize>) -> Moved
-    ensures { result ≡ valued mark.now room barred }
+fn valued(sought: &[u8], room: usize, barred: Option<usize>) -> Moved
+    ensures { result ≡ valued sought.now room barred }
 {
-    if clashes(mark, barred) || room < 3 {
+    if clashes(sought, barred) || room < 3 {
         return Moved::Bad;
     }
     Moved::Go(Place::Value {
@@ -223,12 +223,12 @@ fn valued(mark: &[u8], room: usize, barred: Option<usize>) -> Moved
 }
 
 /// How many bytes must come behind a name, one more where a colon would end a mark.
-fn name_need(mark: &[u8], barred: Option<usize>) -> usize
-    ensures { result ≡ name_need mark.now barred }
+fn name_need(sought: &[u8], barred: Option<usize>) -> usize
+    ensures { result ≡ name_need sought.now barred }
 {
     match barred {
         Some(matched) => {
-            if matched < mark.len() && matched + 1 == mark.len() && mark[matched] == b':' {
+            if matched < sought.len() && matched + 1 == sought.len() && sought[matched] == b':' {
                 4
             } else {
                 3

@@ -1,7 +1,7 @@
 //! A body from its first byte on, part after part.
 
 ghost use Rattle.std.specs.Prelude.{◌≡◌, ◌+◌, ◌-◌, ◌<◌, ◌≤◌, length, drop, IfOk, true, ◌==◌};
-ghost use Rattle.gql_multipart.specs.Reading.{IsAlive, region, closing, mark_end, part_end, skip, seek, content_of};
+ghost use Rattle.gql_multipart.specs.inner.Reading.{IsAlive, region, second_dash, mark_end, part_end, skip, seek, content_of};
 
 use crate::place::{Moved, Place, step};
 use crate::refusal::FrameKind;
@@ -34,20 +34,20 @@ pub(crate) struct Found {
 
 /// Reads one region, from this place on, and gives where it ends.
 fn region(
-    mark: &[u8],
+    sought: &[u8],
     kind: FrameKind,
     place: Place,
     bytes: &[u8],
     from: usize,
 ) -> Result<usize, Stop>
-    requires mark { 2 < length mark.now }
-    requires place { IsAlive mark.now place }
-    ensures value { result ≡ region mark.now kind place bytes.now from }
+    requires sought { 2 < length sought.now }
+    requires place { IsAlive sought.now place }
+    ensures value { result ≡ region sought.now kind place bytes.now from }
     ensures grows { IfOk result (λ next. (from < next) × (next ≤ length bytes.now)) }
 {
     let mut place = place;
     for index in from..bytes.len() {
-        match step(mark, place, bytes[index]) {
+        match step(sought, place, bytes[index]) {
             Moved::Go(next) => place = next,
             Moved::Whole => return Ok(index + 1),
             Moved::Bad => {
@@ -62,16 +62,16 @@ fn region(
 }
 
 /// Reads what stands behind a mark.
-fn mark_end(mark: &[u8], first: bool, bytes: &[u8], at: usize) -> Result<usize, Stop>
-    requires { 2 < length mark.now }
-    ensures value { result ≡ mark_end mark.now first bytes.now at }
+fn mark_end(sought: &[u8], first: bool, bytes: &[u8], at: usize) -> Result<usize, Stop>
+    requires { 2 < length sought.now }
+    ensures value { result ≡ mark_end sought.now first bytes.now at }
     ensures grows { IfOk result (λ next. (at < next) × (next ≤ length bytes.now)) }
 {
     if !first && at < bytes.len() && bytes[at] == b'-' {
-        return Err(closing(bytes, at + 1));
+        return Err(second_dash(bytes, at + 1));
     }
     region(
-        mark,
+        sought,
         FrameKind::BadDelimiter,
         Place::Blanks { room: BLANKS },
         bytes,
@@ -80,8 +80,8 @@ fn mark_end(mark: &[u8], first: bool, bytes: &[u8], at: usize) -> Result<usize, 
 }
 
 /// What stands behind a mark and one dash.
-fn closing(bytes: &[u8], at: usize) -> Stop
-    ensures { result ≡ closing at (drop at bytes.now) }
+fn second_dash(bytes: &[u8], at: usize) -> Stop
+    ensures { result ≡ second_dash at (drop at bytes.now) }
 {
     if at >= bytes.len() {
         return Stop::More;
@@ -96,57 +96,57 @@ fn closing(bytes: &[u8], at: usize) -> Stop
 }
 
 /// Reads the part behind a mark.
-fn part_end(mark: &[u8], first: bool, bytes: &[u8], at: usize) -> Result<Found, Stop>
-    requires { 2 < length mark.now }
-    ensures value { result ≡ part_end mark.now first bytes.now at }
+fn part_end(sought: &[u8], first: bool, bytes: &[u8], at: usize) -> Result<Found, Stop>
+    requires { 2 < length sought.now }
+    ensures value { result ≡ part_end sought.now first bytes.now at }
     ensures grows { IfOk result (λ found. (at < found.next) × (found.content ≤ found.next) × (found.next ≤ length bytes.now)) }
 {
-    let header = mark_end(mark, first, bytes, at)?;
+    let header = mark_end(sought, first, bytes, at)?;
     let line = Place::Line { room: HEADER };
-    let content = region(mark, FrameKind::BadHeader, line, bytes, header)?;
+    let content = region(sought, FrameKind::BadHeader, line, bytes, header)?;
     let behind = Place::Mark {
         room: CONTENT,
         matched: 2,
     };
-    let next = region(mark, FrameKind::PartTooLong, behind, bytes, content)?;
+    let next = region(sought, FrameKind::PartTooLong, behind, bytes, content)?;
     Ok(Found { content, next })
 }
 
 /// Reads so many parts, from behind the first mark on.
-fn skip(mark: &[u8], count: usize, bytes: &[u8], at: usize) -> Result<usize, Stop>
-    requires { 2 < length mark.now }
-    ensures value { result ≡ skip mark.now count true bytes.now at }
+fn skip(sought: &[u8], count: usize, bytes: &[u8], at: usize) -> Result<usize, Stop>
+    requires { 2 < length sought.now }
+    ensures value { result ≡ skip sought.now count true bytes.now at }
     ensures grows { IfOk result (λ next. at + count ≤ next) }
 {
     let mut at = at;
     for number in 0..count {
-        at = part_end(mark, number == 0, bytes, at)?.next;
+        at = part_end(sought, number == 0, bytes, at)?.next;
     }
     Ok(at)
 }
 
-/// Reads the part behind so many parts. `mark` is CRLF and the mark.
-pub(crate) fn seek(mark: &[u8], bytes: &[u8], given: usize) -> Result<Found, Stop>
-    requires { 2 < length mark.now }
-    ensures value { result ≡ seek mark.now bytes.now given }
+/// Reads the part behind so many parts. What is sought is CRLF and the mark.
+pub(crate) fn seek(sought: &[u8], bytes: &[u8], given: usize) -> Result<Found, Stop>
+    requires { 2 < length sought.now }
+    ensures value { result ≡ seek sought.now bytes.now given }
     ensures grows { IfOk result (λ found. (given < found.next) × (found.content ≤ found.next) × (found.next ≤ length bytes.now)) }
 {
     let before = Place::Mark {
         room: PREAMBLE,
         matched: 2,
     };
-    let first = region(mark, FrameKind::BadPreamble, before, bytes, 0)?;
-    let at = skip(mark, given, bytes, first)?;
-    part_end(mark, given == 0, bytes, at)
+    let first = region(sought, FrameKind::BadPreamble, before, bytes, 0)?;
+    let at = skip(sought, given, bytes, first)?;
+    part_end(sought, given == 0, bytes, at)
 }
 
 /// The content of a part that was found.
-pub(crate) fn content<'a>(mark: &[u8], bytes: &'a [u8], found: Found) -> &'a [u8]
+pub(crate) fn content<'a>(sought: &[u8], bytes: &'a [u8], found: Found) -> &'a [u8]
     requires order { found.content ≤ found.next }
     requires within { found.next ≤ length bytes.now }
-    ensures { result.now ≡ content_of mark.now bytes.now found }
+    ensures { result.now ≡ content_of sought.now bytes.now found }
 {
-    let end = found.next.saturating_sub(mark.len());
+    let end = found.next.saturating_sub(sought.len());
     if end <= found.content {
         return &bytes[found.content..found.content];
     }

@@ -1,12 +1,12 @@
-//! The reader of a body that comes in pieces.
+//! The reader of a body that comes in cuts.
 
 ghost use Rattle.std.specs.Prelude.{◌≡◌, ◌++◌, ◌<◌, length, ⊤, IfOk, IfErr, OnOk, OnErr};
 ghost use mathlib.Core.Option.{none};
 ghost use Rattle.std.specs.Borrow.{sem, follows_so};
 ghost use Rattle.gql_multipart.specs.Frame.{crlf};
-ghost use Rattle.gql_multipart.specs.Body as body;
+ghost use Rattle.gql_multipart.specs.Body.{mark};
 ghost use Rattle.gql_multipart.specs.contracts.reader.Reader.{the_row};
-ghost use Rattle.gql_multipart.specs.Reading.{stop_says, has_ended};
+ghost use Rattle.gql_multipart.specs.inner.Reading.{stop_says, has_ended};
 ghost use Rattle.gql_multipart.specs.Past.{Past, Kept, Stands, begun, fed, after, kept_after, IsAnswer, IsGiven, RefusesBoundary, IsEnd, said};
 
 use crate::bytes::is_boundary;
@@ -27,10 +27,11 @@ pub enum Step<'a> {
     Ended,
 }
 
-/// A reader of multipart bodies (RFC 2046, section 5.1) in any pieces.
+/// A reader of multipart bodies (RFC 2046, section 5.1) in any cutting.
 #[derive(Debug, Drop)]
 pub struct Reader {
-    mark: Vec<u8>,
+    /// CRLF and the mark.
+    sought: Vec<u8>,
     bytes: Vec<u8>,
     given: usize,
 }
@@ -41,9 +42,9 @@ impl Model for Reader {
 
     ghost Value = { Kept };
 
-    ghost view = { λ r. record { mark = r.mark.items; bytes = r.bytes.items; given = r.given } };
+    ghost view = { λ r. record { sought = r.sought.items; bytes = r.bytes.items; given = r.given } };
 
-    ghost invariant = { λ r. 2 < length r.mark.items };
+    ghost invariant = { λ r. 2 < length r.sought.items };
 }
 
 impl Reader {
@@ -59,20 +60,20 @@ impl Reader {
                 byte: 0,
             });
         }
-        let mark = mark_of(alloc, boundary.as_bytes())?;
+        let sought = sought_of(alloc, boundary.as_bytes())?;
         Ok(Reader {
-            mark,
+            sought,
             bytes: Vec::new(alloc),
             given: 0,
         })
     }
 
-    /// Takes the next piece of the body. An `Err` changes nothing.
-    pub fn feed(&mut self, piece: &[u8]) -> Result<(), NoMemory>
-        ensures ok { OnOk result ((past : Past) → Stands self.old past → Stands self.new (fed past piece.now)) }
+    /// Takes the next cut of the body. An `Err` changes nothing.
+    pub fn feed(&mut self, cut: &[u8]) -> Result<(), NoMemory>
+        ensures ok { OnOk result ((past : Past) → Stands self.old past → Stands self.new (fed past cut.now)) }
         ensures err { OnErr result (self.new ≡ self.old) }
     {
-        self.bytes.extend_from_slice(piece)?;
+        self.bytes.extend_from_slice(cut)?;
         Ok(())
     }
 
@@ -84,10 +85,10 @@ impl Reader {
         ensures bytes { IsGiven (said result) → self.old.given < length self.old.bytes }
         ensures* after { sem 𝓛 (follows_so the_row the_row self.entry.ghost_name none (λ _ _. ⊤) (λ new. (new ≡ kept_after self.old (said result)) × ((past : Past) → Stands self.old past → Stands new (after past (said result))))) }
     {
-        match seek(&self.mark, &self.bytes, self.given) {
+        match seek(&self.sought, &self.bytes, self.given) {
             Ok(found) => {
                 self.given += 1;
-                Ok(Step::Part(content(&self.mark, &self.bytes, found)))
+                Ok(Step::Part(content(&self.sought, &self.bytes, found)))
             }
             Err(stop) => stopped(stop),
         }
@@ -100,7 +101,7 @@ impl Reader {
         ensures same { self.new ≡ self.old }
     {
         let length = self.bytes.len();
-        if has_ended(seek(&self.mark, &self.bytes, length)) {
+        if has_ended(seek(&self.sought, &self.bytes, length)) {
             return Ok(());
         }
         Err(FrameRefusal::At {
@@ -136,11 +137,11 @@ fn has_ended(found: Result<Found, Stop>) -> bool
 }
 
 /// CRLF and the mark of a boundary.
-fn mark_of(alloc: Global, boundary: &[u8]) -> Result<Vec<u8>, NoMemory>
-    ensures { IfOk result (λ mark. mark.items ≡ crlf ++ body.mark boundary.now) }
+fn sought_of(alloc: Global, boundary: &[u8]) -> Result<Vec<u8>, NoMemory>
+    ensures { IfOk result (λ sought. sought.items ≡ crlf ++ mark boundary.now) }
 {
-    let mut mark = Vec::new(alloc);
-    mark.extend_from_slice(b"\r\n--")?;
-    mark.extend_from_slice(boundary)?;
-    Ok(mark)
+    let mut sought = Vec::new(alloc);
+    sought.extend_from_slice(b"\r\n--")?;
+    sought.extend_from_slice(boundary)?;
+    Ok(sought)
 }

@@ -6,6 +6,10 @@
 #[cfg(test)]
 mod client;
 #[cfg(test)]
+mod merge;
+#[cfg(test)]
+mod multipart;
+#[cfg(test)]
 mod payload;
 #[cfg(test)]
 mod tree;

@@ -8,7 +8,7 @@ use Rattle.std.proofs.lemmas.List.Concat.{flat_map-append}
 use Rattle.std.proofs.lemmas.List.Elements.{All-weaker}
 use Rattle.gql_tree.specs.declared.Payload.{Payload}
 use Rattle.gql_payload.specs.PayloadText.{payload_text}
-use Rattle.gql_multipart.specs.Frame.{crlf, mark, piece, frame}
+use Rattle.gql_multipart.specs.Frame.{crlf, delimiter, piece, frame}
 use Rattle.gql_payload.proofs.Line.{IsOneLine-payload_text}
 use Rattle.gql_multipart.specs.Body.{IsOpen, Body, dashes}
 use Rattle.gql_multipart.specs.Framed.{closing, so_far, IsLine, IsFramable}
@@ -56,7 +56,7 @@ payload_lines [] = tt
 payload_lines (p ∷ ps) = (payload_line p, payload_lines ps)
 
 framable : (t : List ℕ) → IsLine t → Fits t → IsFramable t
-framable t line fits = record { one_line = line.one_line; unmarked = line.unmarked; most = fits }
+framable t line fits = record { line = line; most = fits }
 
 pub all_framable : (ts : List (List ℕ)) → Each IsLine ts → Each Fits ts → Each IsFramable ts
 all_framable [] lines fit = tt
@@ -73,19 +73,19 @@ fits_or t = by (nat_lt part_limit (length t)) refl
 
 -- texts that were sent, and then these bytes
 abbrev pub sent : List (List ℕ) → List ℕ → List ℕ
-sent ts rest = mark ++ (flat_map piece ts ++ rest)
+sent ts rest = delimiter ++ (flat_map piece ts ++ rest)
 
 pub sent-frame : (ts : List (List ℕ)) → frame ts ≡ sent ts (dashes ++ crlf)
-sent-frame ts = ap (λ xs. mark ++ xs) (pieces_end ts)
+sent-frame ts = ap (λ xs. delimiter ++ xs) (pieces_end ts)
 
 pub sent-more : (ts : List (List ℕ)) (xs ys : List ℕ) → sent ts (xs ++ ys) ≡ sent ts xs ++ ys
-sent-more ts xs ys = ap (λ zs. mark ++ zs) (sym (append_assoc (flat_map piece ts) xs ys)) ∙ sym (append_assoc mark (flat_map piece ts ++ xs) ys)
+sent-more ts xs ys = ap (λ zs. delimiter ++ zs) (sym (append_assoc (flat_map piece ts) xs ys)) ∙ sym (append_assoc delimiter (flat_map piece ts ++ xs) ys)
 
 pub sent-append : (ts us : List (List ℕ)) (rest : List ℕ) → sent (ts ++ us) rest ≡ sent ts (flat_map piece us ++ rest)
-sent-append ts us rest = ap (λ zs. mark ++ zs) (ap (λ zs. zs ++ rest) (flat_map-append piece ts us) ∙ append_assoc (flat_map piece ts) (flat_map piece us) rest)
+sent-append ts us rest = ap (λ zs. delimiter ++ zs) (ap (λ zs. zs ++ rest) (flat_map-append piece ts us) ∙ append_assoc (flat_map piece ts) (flat_map piece us) rest)
 
 so_far-some : (t : List ℕ) (ts : List (List ℕ)) → so_far (t ∷ ts) ≡ sent (t ∷ ts) []
-so_far-some t ts = ap (λ zs. mark ++ zs) (sym (append-nil (flat_map piece (t ∷ ts))))
+so_far-some t ts = ap (λ zs. delimiter ++ zs) (sym (append-nil (flat_map piece (t ∷ ts))))
 
 pub sent-so_far : (before : List (List ℕ)) (t : List ℕ) → so_far (before ++ t ∷ []) ≡ sent (before ++ t ∷ []) []
 sent-so_far [] t = so_far-some t []
@@ -95,11 +95,11 @@ closed : (b : Bool) (t : List ℕ) → piece t ++ closing b ≡ flat_map piece (
 closed b t = ap (λ zs. zs ++ closing b) (sym (append-nil (piece t)))
 
 pub sent-up_to : (before : List (List ℕ)) (t : List ℕ) (after : List (List ℕ)) → up_to before t after ≡ sent (before ++ t ∷ []) (closing (at_last after))
-sent-up_to [] t after = ap (λ zs. mark ++ zs) (closed (at_last after) t)
+sent-up_to [] t after = ap (λ zs. delimiter ++ zs) (closed (at_last after) t)
 sent-up_to (b ∷ before) t after =
     let end = closing (at_last after) in
-    append_assoc mark (flat_map piece (b ∷ before)) (piece t ++ end)
-    ∙ (ap (λ zs. mark ++ (flat_map piece (b ∷ before) ++ zs)) (closed (at_last after) t)
+    append_assoc delimiter (flat_map piece (b ∷ before)) (piece t ++ end)
+    ∙ (ap (λ zs. delimiter ++ (flat_map piece (b ∷ before) ++ zs)) (closed (at_last after) t)
     ∙ sym (sent-append (b ∷ before) (t ∷ []) end))
 
 -- ---- fronts

@@ -7,7 +7,7 @@ use Rattle.gql_io.specs.Told.{AppendsPrefix}
 use Rattle.gql_io.proofs.Told.{Prefix-after}
 use Rattle.gql_tree.specs.declared.Payload.{Payload}
 use Rattle.gql_payload.specs.PayloadText.{payload_text}
-use Rattle.gql_multipart.specs.Frame.{frame, mark, piece}
+use Rattle.gql_multipart.specs.Frame.{frame, delimiter, piece}
 use Rattle.gql_multipart.specs.Framed.{framed, so_far}
 use Rattle.gql_tool.specs.declared.status.Status.{Status}
 use Rattle.gql_tool.specs.declared.status.Status.TheVariants.{WriteFault, NoMemory, StreamRefused}
@@ -80,7 +80,7 @@ module _ (p q : Payload) (cut : ℕ) where
 
   -- what was sent when the first was put
   first_is : first ≡ so_far (payload_text p ∷ [])
-  first_is = ap (λ xs. mark ++ xs) (append-nil (piece (payload_text p)) ∙ sym (append-nil (piece (payload_text p))))
+  first_is = ap (λ xs. delimiter ++ xs) (append-nil (piece (payload_text p)) ∙ sym (append-nil (piece (payload_text p))))
 
   cuts-both : cuts_of cut (payload_text p ∷ payload_text q ∷ []) ≡ cuts_in cut first + cuts_in cut second
   cuts-both = ap (λ n. n + cuts_in cut second) (zero-add (cuts_in cut first))

@@ -4,7 +4,7 @@ use Rattle.std.proofs.Common.{◌≡◌, append-nil, arith, length, sym, ap, ◌
 use Rattle.std.specs.Io.KnownBytes.{Appends}
 use Rattle.std.proofs.KnownBytes.{Appends-nil}
 use Rattle.gql_io.specs.Told.{AppendsPrefix}
-use Rattle.gql_multipart.specs.Frame.{frame, piece, mark}
+use Rattle.gql_multipart.specs.Frame.{frame, piece, delimiter}
 use Rattle.gql_multipart.specs.Framed.{framed, closing}
 
 -- nothing is a prefix
@@ -18,5 +18,5 @@ Prefix-all a b bytes sent = (length bytes, subst (Appends a b) (sym (take_all (l
 -- the two pieces of a body
 pub frame-two : (s t : List ℕ) → framed true false s ++ framed false true t ≡ frame (s ∷ t ∷ [])
 frame-two s t =
-    ap (λ xs. (mark ++ xs) ++ (piece t ++ closing true)) (append-nil (piece s))
-    ∙ (append_assoc mark (piece s) (piece t ++ closing true))
+    ap (λ xs. (delimiter ++ xs) ++ (piece t ++ closing true)) (append-nil (piece s))
+    ∙ (append_assoc delimiter (piece s) (piece t ++ closing true))

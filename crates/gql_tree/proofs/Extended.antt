@@ -28,7 +28,7 @@ split_more : (n j : ℕ) → Splits n j → Splits (suc n) (suc j)
 split_more n j (inl h) = inl (omega arith)
 split_more n j (inr p) = inr (p.0, omega (arith, p.1))
 
-split_at : (n j : ℕ) → Splits n j
+pub split_at : (n j : ℕ) → Splits n j
 split_at zero j = inr (j, omega arith)
 split_at (suc n) zero = inl (omega arith)
 split_at (suc n) (suc j) = split_more n j (split_at n j)

@@ -46,7 +46,7 @@ flat_maybe path None (Some w) h = absurd h
 flat_maybe path (Some v) None h = absurd h
 flat_maybe path (Some v) (Some w) h = h path
 
-items_maybe : (xs ys : List Value) (i : ℕ) → SameItems xs ys → SameMaybe (slice_get xs i) (slice_get ys i)
+pub items_maybe : (xs ys : List Value) (i : ℕ) → SameItems xs ys → SameMaybe (slice_get xs i) (slice_get ys i)
 items_maybe [] [] i h = tt
 items_maybe [] (y ∷ ys) i h = absurd h
 items_maybe (x ∷ xs) [] i h = absurd h

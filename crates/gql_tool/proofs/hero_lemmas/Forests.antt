@@ -170,7 +170,6 @@ module _ (t : HeroTables) (spot hero : Spot) (leaves : List Leaf) (n : ℕ) (p :
         stands = stands;
         makes_none = later_makes_none b (l ∷ ls);
         no_fragments = later-fragments b (l ∷ ls);
-        is_object = λ x h. subst (λ (y : Value). flat y [] ≡ Some object) (later-good b (l ∷ ls) x h) (flat-here (leaf_members p (l ∷ ls)));
         fits = λ x h. subst (λ (y : Value). Clashes (flat (hero_object (v.Object (leaf_members p leaves)))) (moved hero_path (flat y)) → ⊥) (later-good b (l ∷ ls) x h) (hero-fits (leaf_members p leaves) (leaf_members p (l ∷ ls)) (NamesApart-leaves p leaves (l ∷ ls) once));
         blamed = λ h e. later-blamed b (l ∷ ls) refl h e;
       })

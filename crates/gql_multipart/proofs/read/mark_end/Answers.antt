@@ -4,7 +4,7 @@ use Rattle.gql_multipart.proofs.read.mark_end.Goals as goal
 use Rattle.gql_multipart.proofs.read.mark_end.Goals.{else-not-first-via-then-not-first+then-at-bytes+else-bytes-at-eq45, else-not-first-via-then-not-first+else-at-bytes, else-not-first-via-else-not-first}
 
 pub returns-then-bytes-at-eq45-clause-value : goal.returns-then-bytes-at-eq45-clause-value
-returns-then-bytes-at-eq45-clause-value c = mark_end_dash _ _ _ _ _ c.if-not-first.true c.if-at-bytes.true c.if-bytes-at-eq45.true c.closing.ensures
+returns-then-bytes-at-eq45-clause-value c = mark_end_dash _ _ _ _ _ c.if-not-first.true c.if-at-bytes.true c.if-bytes-at-eq45.true c.second_dash.ensures
 
 pub returns-clause-value : goal.returns-clause-value
 returns-clause-value c =

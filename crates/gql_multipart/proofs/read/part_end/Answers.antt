@@ -1,5 +1,5 @@
 use Rattle.std.proofs.Common.{rules}
-use Rattle.gql_multipart.specs.Reading.{part_end}
+use Rattle.gql_multipart.specs.inner.Reading.{part_end}
 use Rattle.gql_multipart.proofs.read.part_end.Goals as goal
 
 pub returns-in_err-header-clause-value : goal.returns-in_err-header-clause-value

@@ -1,5 +1,5 @@
 use Rattle.std.proofs.Common.{rules}
-use Rattle.gql_multipart.specs.Reading.{seek}
+use Rattle.gql_multipart.specs.inner.Reading.{seek}
 use Rattle.gql_multipart.proofs.read.seek.Goals as goal
 
 pub returns-in_err-first-clause-value : goal.returns-in_err-first-clause-value

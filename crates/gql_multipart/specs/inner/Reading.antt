@@ -107,9 +107,9 @@ abbrev pub ◌>>=◌ : {A B : Type 0} → Result A Stop → (A → Result B Stop
 (Err e) >>= f = Err e
 
 -- what stands behind one dash behind a mark
-abbrev pub closing : ℕ → List ℕ → Stop
-closing n [] = More
-closing n (b ∷ bs) = if b == 45 then Ended else Refused BadDelimiter (n + 1)
+abbrev pub second_dash : ℕ → List ℕ → Stop
+second_dash n [] = More
+second_dash n (b ∷ bs) = if b == 45 then Ended else Refused BadDelimiter (n + 1)
 
 -- whether a dash stands behind a mark that may be the end mark
 abbrev pub is_dash : Bool → List ℕ → Bool
@@ -118,7 +118,7 @@ is_dash false [] = false
 is_dash false (b ∷ bs) = b == 45
 
 unfoldable pub mark_end : List ℕ → Bool → List ℕ → ℕ → Result ℕ Stop
-mark_end m first bytes at = if is_dash first (drop at bytes) then Err (closing (at + 1) (drop (at + 1) bytes)) else region m BadDelimiter (Blanks 64) bytes at
+mark_end m first bytes at = if is_dash first (drop at bytes) then Err (second_dash (at + 1) (drop (at + 1) bytes)) else region m BadDelimiter (Blanks 64) bytes at
 
 unfoldable pub part_end : List ℕ → Bool → List ℕ → ℕ → Result Found Stop
 part_end m first bytes at =

@@ -1,6 +1,6 @@
 //! Pieces and bodies that are written out by hand.
 
-use crate::{FrameKind, FrameRefusal, Reader, Step, frame};
+use gql_multipart::{FrameKind, FrameRefusal, Reader, Step, frame};
 use std::alloc::Global;
 use std::test::Fail;
 
@@ -42,16 +42,6 @@ fn frames_one_text(rt: HostRuntime) -> Result<(), Fail> {
     Ok(())
 }
 
-#[test]
-fn lengths_of_two_pieces(rt: HostRuntime) -> Result<(), Fail> {
-    let alloc = rt.alloc();
-    let first = frame(alloc, ANNOUNCED.as_bytes(), true, false)?;
-    let last = frame(alloc, DELIVERED.as_bytes(), false, true)?;
-    assert_eq!(rt; first.as_slice().len(), 153);
-    assert_eq!(rt; last.as_slice().len(), 152);
-    Ok(())
-}
-
 /// What a reader says of these bytes: each part in brackets, and then why there is no further one.
 fn told(alloc: Global, boundary: &str, bytes: &[u8]) -> Result<Vec<u8>, Fail> {
     let mut reader = Reader::new(alloc, boundary)?;
@@ -87,7 +77,7 @@ fn spoken(alloc: Global, mut reader: Reader) -> Result<Vec<u8>, Fail> {
 
 fn refused(alloc: Global, refusal: FrameRefusal) -> Result<String, Fail> {
     match refusal {
-        FrameRefusal::At { kind, byte } => Ok(format!(in alloc; "{kind:?} {byte}")?),
+        FrameRefusal::At { kind, byte } => Ok(format!(in alloc; "{} {byte}", kind.name())?),
         FrameRefusal::NoMemory => Ok(format!(in alloc; "NoMemory")?),
     }
 }
@@ -175,10 +165,23 @@ fn refuses_boundaries(rt: HostRuntime) -> Result<(), Fail> {
 }
 
 #[test]
+fn refusals_are_told(rt: HostRuntime) -> Result<(), Fail> {
+    let alloc = rt.alloc();
+    let refusal = FrameRefusal::At {
+        kind: FrameKind::BadDelimiter,
+        byte: 4,
+    };
+    let told = format!(in alloc; "{refusal}")?;
+    assert_eq!(rt; told.as_str(), "a delimiter line is none, at byte 4");
+    Ok(())
+}
+
+#[test]
 fn reads_each_front(rt: HostRuntime) -> Result<(), Fail> {
     let alloc = rt.alloc();
     let mut body = Vec::new(alloc);
     body.extend_from_slice(frame(alloc, ANNOUNCED.as_bytes(), true, false)?.as_slice())?;
+    assert_eq!(rt; body.len(), 153);
     body.extend_from_slice(frame(alloc, DELIVERED.as_bytes(), false, true)?.as_slice())?;
     assert_eq!(rt; body.len(), 305);
     for length in 0..=305 {
