@@ -12,7 +12,7 @@ use Rattle.gql_merge.proofs.Reports.{report_one}
 use Rattle.gql_tool.specs.declared.status.Status.{Status}
 use Rattle.gql_tool.specs.declared.status.Status.TheVariants.{Done, StreamRefused}
 use Rattle.gql_tool.specs.Outcome.{Outcome}
-use Rattle.gql_client.specs.Client.{at_byte, at_payload, payload_name, merge_name, counted, Undecoded, Takes, Follows, AreComplete, AreAll, IsMisframed, Merges, Accepts, Refuses, AcceptsEnd, RefusesEnd}
+use Rattle.gql_client.specs.Client.{Accepts, Refuses, AcceptsEnd, RefusesEnd}
 use Rattle.gql_tool.specs.Replay.{budget, merged_line, lines_of, Tells, IsWhole, IsEndRefused, IsFrontRefused, IsPastBudget, HeardWays, ReplayWays}
 use Rattle.gql_client.proofs.OneHearing.{merges_one, refused_not, refused_one, accepted_not, ends_one, end_not}
 

@@ -1,29 +1,29 @@
-mod Delivery
-mod Fields
-mod Flat
-mod Forest
+pub mod Delivery
+pub mod Fields
+pub mod Flat
+pub mod Forest
 pub mod Forests
-mod Gives
-mod Groups
-mod Ids
-mod Kept
-mod Leaf
-mod Merged
-mod Met
-mod Once
-mod Only
-mod Payloads
-mod Places
-mod Plain
-mod ReadBack
-mod Reading
+pub mod Gives
+pub mod Groups
+pub mod Ids
+pub mod Kept
+pub mod Leaf
+pub mod Merged
+pub mod Met
+pub mod Once
+pub mod Only
+pub mod Payloads
+pub mod Places
+pub mod Plain
+pub mod ReadBack
+pub mod Reading
 pub mod Served
-mod Region
-mod Responses
-mod Rows
+pub mod Region
+pub mod Responses
+pub mod Rows
 pub mod Sound
 pub mod Spots
-mod TableTexts
-mod Texts
-mod Union
-mod Written
+pub mod TableTexts
+pub mod Texts
+pub mod Union
+pub mod Written

@@ -12,9 +12,9 @@ returns-in-Err-At-clause-answers g c =
     MeetsTold-input _ _ _ _ _ (λ bytes left. Meets-no_boundary c.args.boundary.now bytes _ _ _ (no_boundary c.args.boundary.now c.in-Err-At.field-0 c.in-Err-At.field-0-0 c.in-Err-At.field-0-1 c.in-Err-At.field-0-is c.in-Err-At.ensures.refused) c.put_and_end.ensures.meets) (no_read_fault _ _ _ c.put_and_end.ensures.statuses)
 
 pub returns-in-Ok-clause-merges : goal.returns-in-Ok-clause-merges
-returns-in-Ok-clause-merges g c = λ t d served.
-    merges-heard t d c.args.boundary.now _ _ _ _ served (λ bytes left. c.replay_to.ensures.meets c.args.boundary.now bytes left c.in-Ok.ensures.ok)
+returns-in-Ok-clause-merges g c = λ f served.
+    merges-heard f c.args.boundary.now _ _ _ _ served (λ bytes left. c.replay_to.ensures.meets c.args.boundary.now bytes left c.in-Ok.ensures.ok)
 
 pub returns-in-Err-At-clause-merges : goal.returns-in-Err-At-clause-merges
-returns-in-Err-At-clause-merges g c = λ t d served.
-    merges-boundary t d c.args.boundary.now _ _ _ _ served (no_boundary c.args.boundary.now c.in-Err-At.field-0 c.in-Err-At.field-0-0 c.in-Err-At.field-0-1 c.in-Err-At.field-0-is c.in-Err-At.ensures.refused)
+returns-in-Err-At-clause-merges g c = λ f served.
+    merges-boundary f c.args.boundary.now _ _ _ _ served (no_boundary c.args.boundary.now c.in-Err-At.field-0 c.in-Err-At.field-0-0 c.in-Err-At.field-0-1 c.in-Err-At.field-0-is c.in-Err-At.ensures.refused)
