@@ -290,8 +290,7 @@ object-predictive constant value =
 between_whole : {A : Type 0} (first last : List ℕ) (p : Phrase A) (t : Lexeme) (inside : List Lexeme) (value : A) → is_punctuator first t ≡ true → p inside value
     → grammar.between first p last (t ∷ (inside ++ a_token kind.Punctuator last ∷ [])) (t.spot, value)
 between_whole first last p t inside value opens is =
-    let end = a_token kind.Punctuator last in
-    (
+    let end = a_token kind.Punctuator last in (
       t,
       record {
         front = t ∷ [];
