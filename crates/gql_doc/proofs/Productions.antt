@@ -1,6 +1,7 @@
 -- The parser's readers read the productions of the grammar, and stop where no document goes on.
 use Rattle.std.proofs.Common.{◌≡◌, inl, inr, ℕ, zero, suc, Bool, true, false, ◌||◌, ◌&&◌, not, List, [], ◌∷◌, ◌++◌, Option, Some, None, length, Ok, Err, refl, sym, ap, subst, ◌∙◌, codes, arith}
 use Rattle.std.specs.Str.{bytes_eq}
+use Rattle.std.proofs.lemmas.List.{append-nil}
 use Rattle.std.proofs.lemmas.Slice.Eq.{bytes_eq-Decides}
 use Rattle.gql_tree.specs.declared.delivery.Spot.{Spot}
 use Rattle.gql_lex.specs.Tokens.{Lexeme}
@@ -285,80 +286,50 @@ object-predictive constant value =
     (closes-predictive (codes "}") refl brace_closes) refl refl)
     (λ object. returns-predictive (literal.Object object.1 object.0)) refl
 
--- an empty list and an empty object, behind their first punctuator
-list_begun : (p : Phrase Literal) (t : Lexeme) → is_punctuator (codes "[") t ≡ true → Begun (grammar.list_value p) (t ∷ [])
-unfolding a_token
-list_begun p t e =
-    let last = a_token kind.Punctuator (codes "]") in
+-- what stands between two punctuators, whole
+between_whole : {A : Type 0} (first last : List ℕ) (p : Phrase A) (t : Lexeme) (inside : List Lexeme) (value : A) → is_punctuator first t ≡ true → p inside value
+    → grammar.between first p last (t ∷ (inside ++ a_token kind.Punctuator last ∷ [])) (t.spot, value)
+between_whole first last p t inside value opens is =
+    let end = a_token kind.Punctuator last in (
+      t,
+      record {
+        front = t ∷ [];
+        back = inside ++ end ∷ [];
+        whole = refl;
+        front_is = (refl, opens);
+        back_is = (
+          value,
+          record {
+            front = inside;
+            back = end ∷ [];
+            whole = refl;
+            front_is = is;
+            back_is = (end, record { front = end ∷ []; back = []; whole = refl; front_is = (refl, punctuator_example last); back_is = (refl, refl) });
+          },
+        );
+      },
+    )
+
+-- what is made of it, behind the first punctuator
+between_begun : {A B : Type 0} (first last : List ℕ) (p : Phrase A) (make : Spot × A → B) (t : Lexeme) (inside : List Lexeme) (value : A) → is_punctuator first t ≡ true → p inside value
+    → Begun (phrase.◌>>=◌ (grammar.between first p last) (λ x. returns (make x))) (t ∷ [])
+between_begun first last p make t inside value opens is =
+    let rest = inside ++ a_token kind.Punctuator last ∷ [] in
     record {
-      more = last ∷ [];
-      value = literal.List [] t.spot;
+      more = rest;
+      value = make (t.spot, value);
       is = (
-        (t.spot, []),
-        record {
-          front = t ∷ last ∷ [];
-          back = [];
-          whole = refl;
-          back_is = (refl, refl);
-          front_is = (
-            t,
-            record {
-              front = t ∷ [];
-              back = last ∷ [];
-              whole = refl;
-              front_is = (refl, e);
-              back_is = (
-                [],
-                record {
-                  front = [];
-                  back = last ∷ [];
-                  whole = refl;
-                  front_is = refl;
-                  back_is = (last, record { front = last ∷ []; back = []; whole = refl; front_is = (refl, punctuator_example (codes "]")); back_is = (refl, refl) });
-                },
-              );
-            },
-          );
-        },
+        (t.spot, value),
+        record { front = t ∷ rest; back = []; whole = ap (λ (l : List Lexeme). t ∷ l) (sym (append-nil rest)); back_is = (refl, refl); front_is = between_whole first last p t inside value opens is },
       );
     }
 
+-- an empty list and an empty object
+list_begun : (p : Phrase Literal) (t : Lexeme) → is_punctuator (codes "[") t ≡ true → Begun (grammar.list_value p) (t ∷ [])
+list_begun p t opens = between_begun (codes "[") (codes "]") (phrase.many p) (λ list. literal.List list.1 list.0) t [] [] opens refl
+
 object_begun : (p : Phrase Literal) (t : Lexeme) → is_punctuator (codes "{") t ≡ true → Begun (grammar.object_value p) (t ∷ [])
-unfolding a_token
-object_begun p t e =
-    let last = a_token kind.Punctuator (codes "}") in
-    record {
-      more = last ∷ [];
-      value = literal.Object [] t.spot;
-      is = (
-        (t.spot, []),
-        record {
-          front = t ∷ last ∷ [];
-          back = [];
-          whole = refl;
-          back_is = (refl, refl);
-          front_is = (
-            t,
-            record {
-              front = t ∷ [];
-              back = last ∷ [];
-              whole = refl;
-              front_is = (refl, e);
-              back_is = (
-                [],
-                record {
-                  front = [];
-                  back = last ∷ [];
-                  whole = refl;
-                  front_is = refl;
-                  back_is = (last, record { front = last ∷ []; back = []; whole = refl; front_is = (refl, punctuator_example (codes "}")); back_is = (refl, refl) });
-                },
-              );
-            },
-          );
-        },
-      );
-    }
+object_begun p t opens = between_begun (codes "{") (codes "}") (phrase.many (grammar.argument p)) (λ object. literal.Object object.1 object.0) t [] [] opens refl
 
 or_else : {A : Type 0} (a b : Bool) → (a || b) ≡ true → (a ≡ true → A) → (b ≡ true → A) → A
 or_else true b h f g = f refl
@@ -477,42 +448,8 @@ type_from nested = bind-predictive (pick_first-predictive is_name is_name-has na
 
 type_begun : (depth : ℕ) (t : Lexeme) → is_punctuator (codes "[") t ≡ true → Begun (grammar.list_type (grammar.type_ref depth)) (t ∷ [])
 unfolding a_token
-type_begun depth t e =
-    let word = a_token kind.Name (codes "a") in
-    let last = a_token kind.Punctuator (codes "]") in
-    let inner = type.Named word.text word.spot in
-    record {
-      more = word ∷ last ∷ [];
-      value = type.List inner;
-      is = (
-        (t.spot, inner),
-        record {
-          front = t ∷ word ∷ last ∷ [];
-          back = [];
-          whole = refl;
-          back_is = (refl, refl);
-          front_is = (
-            t,
-            record {
-              front = t ∷ [];
-              back = word ∷ last ∷ [];
-              whole = refl;
-              front_is = (refl, e);
-              back_is = (
-                inner,
-                record {
-                  front = word ∷ [];
-                  back = last ∷ [];
-                  whole = refl;
-                  front_is = by depth;
-                  back_is = (last, record { front = last ∷ []; back = []; whole = refl; front_is = (refl, punctuator_example (codes "]")); back_is = (refl, refl) });
-                },
-              );
-            },
-          );
-        },
-      );
-    }
+type_begun depth t opens =
+    between_begun (codes "[") (codes "]") (grammar.type_ref depth) (λ list. type.List list.1) t (a_token kind.Name (codes "a") ∷ []) (type.Named (codes "a") (record { line = 0; column = 0 })) opens (by depth)
   where
     named : grammar.named_type (a_token kind.Name (codes "a") ∷ []) (type.Named (codes "a") (record { line = 0; column = 0 }))
     named = (a_token kind.Name (codes "a"), record { front = a_token kind.Name (codes "a") ∷ []; back = []; whole = refl; front_is = (refl, refl); back_is = (refl, refl) })
@@ -727,38 +664,19 @@ field_begun depth sets =
     )
 
 set_begun : (t : Lexeme) → is_punctuator (codes "{") t ≡ true → Begun (grammar.selection_set 1) (t ∷ [])
-set_begun t e =
+set_begun t opens =
     let word = a_word (codes "a") in
-    let last = a_token kind.Punctuator (codes "}") in
     record {
-      more = word ∷ last ∷ [];
+      more = word ∷ a_token kind.Punctuator (codes "}") ∷ [];
       value = (t.spot, a_field ∷ []);
-      is = (
-        t,
+      is = between_whole (codes "{") (codes "}") (phrase.some (grammar.any_selection 0 (grammar.selections 0))) t (word ∷ []) (a_field ∷ []) opens (
+        a_field,
         record {
-          front = t ∷ [];
-          back = word ∷ last ∷ [];
+          front = word ∷ [];
+          back = [];
           whole = refl;
-          front_is = (refl, e);
-          back_is = (
-            a_field ∷ [],
-            record {
-              front = word ∷ [];
-              back = last ∷ [];
-              whole = refl;
-              front_is = (
-                a_field,
-                record {
-                  front = word ∷ [];
-                  back = [];
-                  whole = refl;
-                  front_is = field_begun 0 _;
-                  back_is = ([], record { front = []; back = []; whole = refl; front_is = refl; back_is = (refl, refl) });
-                },
-              );
-              back_is = (last, record { front = last ∷ []; back = []; whole = refl; front_is = (refl, punctuator_example (codes "}")); back_is = (refl, refl) });
-            },
-          );
+          front_is = field_begun 0 _;
+          back_is = ([], record { front = []; back = []; whole = refl; front_is = refl; back_is = (refl, refl) });
         },
       );
     }

@@ -165,32 +165,20 @@ punctuator_is kind.Block own text = refl
 pub is_punctuator-has : (text : List ℕ) (token : Lexeme) → is_punctuator text token ≡ has (this text) token
 is_punctuator-has text token = punctuator_is token.kind token.text text
 
-name_is : (k : TokenKind) (text : List ℕ) → is_name_kind k ≡ has_of names k text
-name_is kind.Punctuator text = refl
-name_is kind.Name text = refl
-name_is kind.Int text = refl
-name_is kind.Quoted text = refl
-name_is kind.Block text = refl
+-- a test of a kind, and a set that has the same kinds
+kind_is : (s : Set) (test : TokenKind → Bool) (k : TokenKind) (text : List ℕ) → test kind.Punctuator ≡ among s.punctuators text → test kind.Name ≡ s.names → test kind.Int ≡ s.numbers → test kind.Quoted ≡ s.strings → test kind.Block ≡ s.strings
+    → test k ≡ has_of s k text
+kind_is s test kind.Punctuator text punctuators names numbers quoted block = punctuators
+kind_is s test kind.Name text punctuators names numbers quoted block = names
+kind_is s test kind.Int text punctuators names numbers quoted block = numbers
+kind_is s test kind.Quoted text punctuators names numbers quoted block = quoted
+kind_is s test kind.Block text punctuators names numbers quoted block = block
 
 pub is_name-has : (token : Lexeme) → is_name token ≡ has names token
-is_name-has token = name_is token.kind token.text
-
-number_is : (k : TokenKind) (text : List ℕ) → is_number_kind k ≡ has_of numbers k text
-number_is kind.Punctuator text = refl
-number_is kind.Name text = refl
-number_is kind.Int text = refl
-number_is kind.Quoted text = refl
-number_is kind.Block text = refl
+is_name-has token = kind_is names is_name_kind token.kind token.text refl refl refl refl refl
 
 pub is_number-has : (token : Lexeme) → is_number token ≡ has numbers token
-is_number-has token = number_is token.kind token.text
-
-string_is : (k : TokenKind) (text : List ℕ) → is_string_kind k ≡ has_of strings k text
-string_is kind.Punctuator text = refl
-string_is kind.Name text = refl
-string_is kind.Int text = refl
-string_is kind.Quoted text = refl
-string_is kind.Block text = refl
+is_number-has token = kind_is numbers is_number_kind token.kind token.text refl refl refl refl refl
 
 pub is_string-has : (token : Lexeme) → is_string token ≡ has strings token
-is_string-has token = string_is token.kind token.text
+is_string-has token = kind_is strings is_string_kind token.kind token.text refl refl refl refl refl

@@ -17,7 +17,7 @@ use Rattle.gql_model.specs.declared.syntax.FieldNode.{FieldNode, roll-FieldNode}
 use Rattle.gql_model.specs.declared.syntax.InlineNode.{InlineNode, roll-InlineNode}
 use Rattle.gql_model.specs.declared.syntax.Selection.{Selection}
 use Rattle.gql_model.specs.declared.syntax.Selection.TheOpen.{Selection-F, FieldNode-F, InlineNode-F}
-use Rattle.gql_model.specs.declared.syntax.Selection.TheFolds.{fold-Selection, fold-FieldNode, fold-InlineNode}
+use Rattle.gql_model.specs.declared.syntax.Selection.TheFolds.{fold-Selection}
 use Rattle.gql_model.specs.declared.syntax.Selection.TheVariants as selection
 use Rattle.gql_model.specs.declared.syntax.OperationDef.{OperationDef}
 use Rattle.gql_model.specs.declared.syntax.FragmentDef.{FragmentDef}

@@ -24,7 +24,7 @@ pub enum ParseRefusal {
     #[error("the brace or bracket at {}:{} is opened inside 128 others", .spot.line, .spot.column)]
     TooDeep { spot: Spot },
     /// There was no memory for the document.
-    #[error("no memory is left")]
+    #[error("no memory left")]
     NoMemory,
 }
 

@@ -233,7 +233,7 @@ fn messages(rt: HostRuntime) -> Result<(), Fail> {
             ParseRefusal::TooDeep { spot },
             "the brace or bracket at 2:7 is opened inside 128 others",
         ),
-        (ParseRefusal::NoMemory, "no memory is left"),
+        (ParseRefusal::NoMemory, "no memory left"),
     ];
     for (refusal, want) in table {
         let got = format!(in rt.alloc(); "{refusal}")?;
