@@ -1,5 +1,5 @@
 -- Choices by a test, and lists that are cut in two ways.
-use Rattle.std.proofs.Common.{◌≡◌, ℕ, zero, suc, ◌<◌, ◌≤◌, Bool, true, false, if◌then◌else◌, List, [], ◌∷◌, ◌++◌, length, get_or, take, drop, refl, sym, ap₂, arith}
+use Rattle.std.proofs.Common.{◌≡◌, ℕ, zero, suc, ◌<◌, ◌≤◌, Bool, true, false, if◌then◌else◌, List, [], ◌∷◌, ◌++◌, length, get_or, take, refl, sym, ap₂, arith}
 use Rattle.std.specs.List.{AllByRecursion as Each}
 
 pub by_test : {A : Type 0} (P : A → Type 0) (t : Bool) (x y : A) → ((t ≡ true) → P x) → ((t ≡ false) → P y) → P (if t then x else y)
