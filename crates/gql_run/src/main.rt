@@ -3,8 +3,9 @@
 //! nothing to standard error.
 #![tactic(auto)]
 
+use gql_client::Client;
 use gql_io::{FileShelf, StdSink, StdSource};
-use gql_tool::{Client, Status, tool};
+use gql_tool::{Status, tool};
 use gql_tree::Text;
 use std::alloc::Global;
 use std::env;
