@@ -1,6 +1,7 @@
 -- A command whose files are there, and nothing outside fails.
-use Rattle.std.proofs.Common.{◌≡◌, ℕ, ◌≤◌, List, length, Option, None, Some, subst, sym, refl, inl, inr, arith}
+use Rattle.std.proofs.Common.{◌≡◌, ℕ, ◌+◌, ◌-◌, ◌^◌, ◌≤◌, min, List, length, Option, None, Some, subst, sym, refl, inl, inr, arith}
 use Rattle.gql_io.specs.Files.{Files}
+use Rattle.gql_io.specs.Faults.{Rose}
 use Rattle.gql_tool.specs.declared.status.Status.{Status}
 use Rattle.gql_tool.specs.declared.status.Status.TheVariants.{Done, Refused, ReadFault, WriteFault, NoMemory}
 use Rattle.gql_tool.specs.Outcome.{Outcome, Ways, AfterFile, file_limit}
@@ -52,3 +53,10 @@ judged (Some files) names status a b has meets no_read no_write = by_status stat
     by_status Done m no_read no_write = tt
     by_status Refused m no_read no_write = tt
     by_status other m no_read no_write = whole other m
+
+-- a count that rises behind a step has risen
+pub Rose-behind : (before between now : ℕ) → before ≤ between → Rose between now → Rose before now
+Rose-behind before between now later rose = by (2 ^ 64 - 1) rose
+  where
+    by : (most : ℕ) → min (between + 1) most ≤ now → min (before + 1) most ≤ now
+    by most rose = omega (arith, later, rose)

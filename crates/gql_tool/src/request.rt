@@ -1,9 +1,9 @@
 //! What follows the reading of the files: the request that they are is executed or refused.
 
-ghost use Rattle.std.specs.Prelude.{◌≡◌, ◌⊎◌, ◌<◌, None, IfOk, IfErr, IsErrOf};
+ghost use Rattle.std.specs.Prelude.{◌≡◌, ◌⊎◌, ◌<◌, ℕ, List, Option, None, IfOk, IfErr, IsErrOf};
 ghost use Rattle.gql_io.specs.Faults.{Counts};
 ghost use Rattle.gql_doc.specs.Refusals.{parse_spot};
-ghost use Rattle.gql_tool.specs.Outcome.{Outcome};
+ghost use Rattle.gql_tree.specs.declared.Spot.{Spot};
 ghost use Rattle.gql_tool.specs.Judged.{Parses, Judged, Executed};
 ghost use Rattle.gql_tool.specs.Local.{spot_or_zero, syntax_message, refused, Answered};
 ghost use Rattle.gql_tool.specs.LocalClient.{IsNew, ClientEnds};
@@ -161,8 +161,8 @@ fn whole_body(alloc: Global, message: &str) -> Result<Bytes, NoMemory>
 
 /// Refuses a request with this body, if there was memory to make it.
 fn refuse<O: Sink>(body: Result<Bytes, NoMemory>, output: &mut O) -> Status
-    ensures meets { (why : Outcome) → why.status ≡ Status.Refused → IfOk body (λ bytes. bytes ≡ why.bytes)
-        → Meets (λ o. o ≡ why) result (O.sent output.old) (O.sent output.new) }
+    ensures meets { (message : List ℕ) (spot : Option Spot) → IfOk body (λ bytes. bytes ≡ (refused message spot).bytes)
+        → Meets (λ o. o ≡ refused message spot) result (O.sent output.old) (O.sent output.new) }
     ensures statuses { (result ≡ Status.Refused) ⊎ ((result ≡ Status.WriteFault) ⊎ (result ≡ Status.NoMemory)) }
     ensures write_fault { Counts (O.faults output.old) (O.faults output.new) (result ≡ Status.WriteFault) }
 {

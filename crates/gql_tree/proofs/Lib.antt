@@ -8,7 +8,7 @@ mod Has
 pub mod Union
 pub mod Extended
 pub mod Grafted
-mod Order
+pub mod Order
 pub mod Json
 pub mod FromJson
 pub mod Marks

@@ -6,13 +6,13 @@ use Rattle.std.proofs.lemmas.Bool.Decides.{nat_tests}
 use Rattle.gql_tree.specs.declared.path.Key.{Key}
 use Rattle.gql_tree.specs.Order.{path_cmp}
 
-nat_cmp_suc : (m n : ℕ) → nat_cmp (suc m) (suc n) ≡ nat_cmp m n
+pub nat_cmp_suc : (m n : ℕ) → nat_cmp (suc m) (suc n) ≡ nat_cmp m n
 nat_cmp_suc m n = grind (arith, nat_tests)
 
-first_less : (n : ℕ) → nat_cmp 0 (suc n) ≡ Less
+pub first_less : (n : ℕ) → nat_cmp 0 (suc n) ≡ Less
 first_less n = grind (arith, nat_tests)
 
-first_greater : (n : ℕ) → nat_cmp (suc n) 0 ≡ Greater
+pub first_greater : (n : ℕ) → nat_cmp (suc n) 0 ≡ Greater
 first_greater n = grind (arith, nat_tests)
 
 pub path_cmp_end : (a b : List Key) (i : ℕ) → i ≡ min (length a) (length b) → path_cmp (drop i a) (drop i b) ≡ nat_cmp (length a) (length b)

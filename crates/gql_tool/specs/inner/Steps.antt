@@ -19,6 +19,7 @@ IsStop _ = ⊥
 
 -- those that end it behind its files
 abbrev pub IsWork : Status → Type 0
+IsWork Done = ⊤
 IsWork Refused = ⊤
 IsWork WriteFault = ⊤
 IsWork NoMemory = ⊤

@@ -17,20 +17,20 @@ after_tables names s files t = AfterFile (files names.document) names.document (
 abbrev after_schema : Names → Files → List ℕ → Ways
 after_schema names files s = AfterFile (files names.tables) names.tables (after_tables names s files)
 
-pub returns_in_err-schema-clause-stops : goal.returns_in_err-schema-clause-stops
-returns_in_err-schema-clause-stops g c =
+pub returns-in_err-schema-clause-stops : goal.returns-in_err-schema-clause-stops
+returns-in_err-schema-clause-stops g c =
     let names = names_of c.args.words.now in
     at_end _ _ c.from_residual.result _ _ _ c.from_residual.ensures.1 (stops_at _ names.schema (after_schema names) _ _ _ c.in_err-schema.ensures.stops)
 
-pub returns_in_err-tables-clause-stops : goal.returns_in_err-tables-clause-stops
-returns_in_err-tables-clause-stops g c =
+pub returns-in_err-tables-clause-stops : goal.returns-in_err-tables-clause-stops
+returns-in_err-tables-clause-stops g c =
     let names = names_of c.args.words.now in
     at_end _ _ c.from_residual-in_err-tables.result _ _ _ c.from_residual-in_err-tables.ensures.1
     (goes_on _ _ names.schema c.in_ok-schema.schema (after_schema names) _ _ _ _ c.in_ok-schema.ensures.same c.in_ok-schema.ensures.found c.in_ok-schema.ensures.within c.in_ok-schema.ensures.kept
     (stops_at _ names.tables (after_tables names c.in_ok-schema.schema) _ _ _ c.in_err-tables.ensures.stops))
 
-pub returns_in_err-document-clause-stops : goal.returns_in_err-document-clause-stops
-returns_in_err-document-clause-stops g c =
+pub returns-in_err-document-clause-stops : goal.returns-in_err-document-clause-stops
+returns-in_err-document-clause-stops g c =
     let names = names_of c.args.words.now in
     at_end _ _ c.from_residual-in_err-document.result _ _ _ c.from_residual-in_err-document.ensures.1
     (goes_on _ _ names.schema c.in_ok-schema.schema (after_schema names) _ _ _ _ c.in_ok-schema.ensures.same c.in_ok-schema.ensures.found c.in_ok-schema.ensures.within c.in_ok-schema.ensures.kept

@@ -8,12 +8,12 @@ deliver-requires-clause-once g c = c.requires.runs.once
 pub deliver-requires-clause-stands : goal.deliver-requires-clause-stands
 deliver-requires-clause-stands g c = c.requires.runs.stands
 
-pub returns_in_err-deliver-clause-meets : goal.returns_in_err-deliver-clause-meets
-returns_in_err-deliver-clause-meets g c =
+pub returns-in_err-deliver-clause-meets : goal.returns-in_err-deliver-clause-meets
+returns-in_err-deliver-clause-meets g c =
     (executed-failing (regions_of c.args.request.now) c.requires.runs.served c.args.client.now c.requires.client c.args.cut _ _ c.deliver.new.client _ _ c.from_residual.ensures.1 c.in_err-deliver.ensures.handed).0
 
-pub returns_in_err-deliver-clause-client : goal.returns_in_err-deliver-clause-client
-returns_in_err-deliver-clause-client g c =
+pub returns-in_err-deliver-clause-client : goal.returns-in_err-deliver-clause-client
+returns-in_err-deliver-clause-client g c =
     (executed-failing (regions_of c.args.request.now) c.requires.runs.served c.args.client.now c.requires.client c.args.cut _ _ c.deliver.new.client _ _ c.from_residual.ensures.1 c.in_err-deliver.ensures.handed).1
 
 pub returns-clause-meets : goal.returns-clause-meets
