@@ -1,5 +1,6 @@
 -- The regions that a request has, and the client in the end.
-use Rattle.std.proofs.Common.{◌≡◌, refl, subst, ℕ, List, Option, None, Some, inl, inr}
+use Rattle.std.proofs.Common.{◌≡◌, refl, sym, subst, ℕ, List, Option, None, Some, inl, inr}
+use Rattle.std.proofs.lemmas.Bool.{true≢false}
 use Rattle.std.specs.Io.KnownBytes.{Keeps}
 use Rattle.gql_tree.specs.Forest.{Forest}
 use Rattle.gql_io.specs.Files.{Files}
@@ -9,7 +10,8 @@ use Rattle.gql_tool.specs.declared.status.Status.TheVariants.{Done, ReadFault, W
 use Rattle.gql_tool.specs.Words.{Names}
 use Rattle.gql_tool.specs.Judged.{Judgement, Executed}
 use Rattle.gql_tool.specs.LocalClient.{Asks, ClientEnds}
-use Rattle.gql_tool.specs.inner.Steps.{IsStop, Requests}
+use Rattle.gql_tool.specs.Statuses.{IsOneOf}
+use Rattle.gql_tool.specs.inner.Steps.{file_statuses, Requests}
 use Rattle.gql_tool.proofs.Files.{Appends-kept_first}
 
 -- what is said of the regions that are asked for, where nothing was written before
@@ -32,10 +34,10 @@ client_of told names is cut old new x y z status asked kept ends =
     ends_as (λ f. is ≡ Executed f) (Asks told names) cut old new x y z status (λ f same. asks told names f (subst (Requests told names) same asked)) kept ends
 
 -- a command that ended at a file left it as it was
-pub client_unfed : (A : Forest → Type 0) (cut : ℕ) (c : Client) (x z : Option (List ℕ)) (status : Status) → IsStop status → ClientEnds A cut c c x z status
+pub client_unfed : (A : Forest → Type 0) (cut : ℕ) (c : Client) (x z : Option (List ℕ)) (status : Status) → IsOneOf file_statuses status → ClientEnds A cut c c x z status
 client_unfed A cut c x z ReadFault stop = refl
 client_unfed A cut c x z WriteFault stop = inl refl
 client_unfed A cut c x z NoMemory stop = tt
 client_unfed A cut c x z NoFile stop = refl
 client_unfed A cut c x z TooLong stop = refl
-client_unfed A cut c x z _ stop = absurd stop
+client_unfed A cut c x z _ stop = absurd (true≢false (sym stop))

@@ -3,12 +3,10 @@ use Rattle.std.proofs.Common.{◌≡◌, sym, ap, ◌∙◌, subst, inl, inr, �
 use Rattle.std.specs.Prelude.{take, drop, codes}
 use Rattle.std.proofs.lemmas.List.{take-append-drop}
 use Rattle.std.specs.List.{AllByRecursion as Each}
-use Rattle.serde_json.specs.Data.{depth}
 use Rattle.gql_tree.specs.declared.delivery.Payload.{Payload}
 use Rattle.gql_tree.specs.Forest.{Forest}
 use Rattle.gql_tree.specs.FirstPayloads.{first_payloads}
-use Rattle.gql_tree.specs.Sound.{IsSound}
-use Rattle.gql_payload.specs.PayloadText.{payload_data, payload_text}
+use Rattle.gql_payload.specs.PayloadText.{payload_text}
 use Rattle.gql_multipart.specs.Frame.{frame}
 use Rattle.gql_multipart.specs.Body.{IsOpen}
 use Rattle.gql_multipart.specs.Framed.{AreFirst, IsLine}

@@ -8,7 +8,8 @@ use Rattle.gql_tool.specs.Outcome.{Outcome, Ways, AfterFile, file_limit}
 use Rattle.gql_tool.specs.Words.{Names}
 use Rattle.gql_tool.specs.Judged.{Judgement, NoText, NoDocument, NotBuilt, Executed}
 use Rattle.gql_tool.specs.Local.{Answered, RequestWays, LocalWays}
-use Rattle.gql_tool.specs.Meets.{Meets, MeetsTold, IsJudged, HasFiles, Whole}
+use Rattle.gql_tool.specs.Statuses.{IsOneOf, judged_statuses}
+use Rattle.gql_tool.specs.Meets.{Meets, MeetsTold, HasFiles, Whole}
 
 -- the file leads on
 leads_on : (file : Option (List ℕ)) (name bytes : List ℕ) (next : List ℕ → Ways) (o : Outcome) → file ≡ Some bytes → length bytes ≤ file_limit → AfterFile file name next o
@@ -19,16 +20,16 @@ leads_on file name bytes next o is within after = here (subst (λ (f : Option (L
     here (inl over) = absurd (omega (arith, within, over.0))
     here (inr right) = right.1
 
-answered : (is : Judgement) (o : Outcome) → Answered is o → IsJudged o.status
-answered NoText o is = subst (λ (p : Outcome). IsJudged p.status) (sym is) tt
-answered (NoDocument refusal) o is = subst (λ (p : Outcome). IsJudged p.status) (sym is) tt
-answered NotBuilt o is = subst (λ (p : Outcome). IsJudged p.status) (sym is) tt
-answered (Executed f) o (inl delivered) = subst (λ (p : Outcome). IsJudged p.status) (sym delivered.is) tt
-answered (Executed f) o (inr cut) = subst (λ (p : Outcome). IsJudged p.status) (sym cut.is) tt
+answered : (is : Judgement) (o : Outcome) → Answered is o → IsOneOf judged_statuses o.status
+answered NoText o is = subst (λ (p : Outcome). IsOneOf judged_statuses p.status) (sym is) refl
+answered (NoDocument refusal) o is = subst (λ (p : Outcome). IsOneOf judged_statuses p.status) (sym is) refl
+answered NotBuilt o is = subst (λ (p : Outcome). IsOneOf judged_statuses p.status) (sym is) refl
+answered (Executed f) o (inl delivered) = subst (λ (p : Outcome). IsOneOf judged_statuses p.status) (sym delivered.is) refl
+answered (Executed f) o (inr cut) = subst (λ (p : Outcome). IsOneOf judged_statuses p.status) (sym cut.is) refl
 
 -- the right outcomes are those of the request
 right : (files : Files) (names : Names) (o : Outcome) → HasFiles (Some files) names → LocalWays names files o
-    → IsJudged o.status
+    → IsOneOf judged_statuses o.status
 right files names o has ways =
     let s = has.0 in
     let t = has.1 in
@@ -39,19 +40,19 @@ right files names o has ways =
     answered at_document.0 o at_document.2
 
 pub judged : (told : Option Files) (names : Names) (status : Status) (a b : Option (List ℕ)) → HasFiles told names
-    → MeetsTold told (LocalWays names) status a b → ¬ (status ≡ ReadFault) → ¬ (status ≡ WriteFault) → IsJudged status
+    → MeetsTold told (LocalWays names) status a b → ¬ (status ≡ ReadFault) → ¬ (status ≡ WriteFault) → IsOneOf judged_statuses status
 judged None names status a b has meets no_read no_write = absurd has
 judged (Some files) names status a b has meets no_read no_write = by_status status meets no_read no_write
   where
-    whole : (s : Status) → Whole (LocalWays names files) s a b → IsJudged s
-    whole s w = subst IsJudged (sym w.2) (right files names w.0 has w.1)
+    whole : (s : Status) → Whole (LocalWays names files) s a b → IsOneOf judged_statuses s
+    whole s w = subst (IsOneOf judged_statuses) (sym w.2) (right files names w.0 has w.1)
 
-    by_status : (s : Status) → Meets (LocalWays names files) s a b → ¬ (s ≡ ReadFault) → ¬ (s ≡ WriteFault) → IsJudged s
+    by_status : (s : Status) → Meets (LocalWays names files) s a b → ¬ (s ≡ ReadFault) → ¬ (s ≡ WriteFault) → IsOneOf judged_statuses s
     by_status ReadFault m no_read no_write = absurd (no_read refl)
     by_status WriteFault m no_read no_write = absurd (no_write refl)
-    by_status NoMemory m no_read no_write = tt
-    by_status Done m no_read no_write = tt
-    by_status Refused m no_read no_write = tt
+    by_status NoMemory m no_read no_write = refl
+    by_status Done m no_read no_write = refl
+    by_status Refused m no_read no_write = refl
     by_status other m no_read no_write = whole other m
 
 -- a count that rises behind a step has risen

@@ -1,18 +1,13 @@
 -- What the command `replay` ends with is determined.
-use Rattle.std.proofs.Common.{◌≡◌, ◌≢◌, refl, sym, ap, ap₂, ◌∙◌, subst, inl, inr, arith, true, false, nat_le, leb-true, leb-false, ℕ, ◌+◌, ◌-◌, ◌≤◌, List, [], ◌∷◌, ◌++◌, length, Option, None, Some, Result, Ok, Err, is_some, codes, length-append}
-use Rattle.std.specs.Prelude.{IsUtf8}
-use Rattle.std.proofs.lemmas.List.{append-nil, take-append-le}
-use Rattle.gql_tree.specs.declared.delivery.Payload.{Payload}
-use Rattle.gql_multipart.specs.Body.{IsBoundary, IsOpen}
-use Rattle.gql_multipart.specs.Past.{Past, refuses}
+use Rattle.std.proofs.Common.{◌≡◌, ◌≢◌, refl, sym, ap, ◌∙◌, subst, inl, inr, arith, ℕ, ◌≤◌, List, [], ◌∷◌, ◌++◌, length, Option, None, Some, codes, length-append}
+use Rattle.gql_multipart.specs.Body.{IsBoundary}
 use Rattle.gql_merge.specs.declared.state.State.{State}
-use Rattle.gql_merge.specs.Apply.{Answer, Apply, fresh}
-use Rattle.gql_merge.specs.Same.{SameState, SameAnswer, IsTypedState}
+use Rattle.gql_merge.specs.Same.{SameState, IsTypedState}
 use Rattle.gql_merge.proofs.Reports.{report_one}
 use Rattle.gql_tool.specs.declared.status.Status.{Status}
 use Rattle.gql_tool.specs.declared.status.Status.TheVariants.{Done, StreamRefused}
 use Rattle.gql_tool.specs.Outcome.{Outcome}
-use Rattle.gql_client.specs.Client.{Accepts, Refuses, AcceptsEnd, RefusesEnd}
+use Rattle.gql_client.specs.Client.{Accepts}
 use Rattle.gql_tool.specs.Replay.{budget, merged_line, lines_of, Tells, IsWhole, IsEndRefused, IsFrontRefused, IsPastBudget, HeardWays, ReplayWays}
 use Rattle.gql_client.proofs.OneHearing.{merges_one, refused_not, refused_one, accepted_not, ends_one, end_not}
 

@@ -18,7 +18,8 @@ use Rattle.gql_tool.specs.inner.Handed.{IsWritten}
 use Rattle.gql_tool.specs.Local.{texts, body}
 use Rattle.gql_tool.specs.inner.Servable.{IsReadBack, CanBeServed}
 use Rattle.gql_tool.specs.LocalClient.{dash}
-use Rattle.gql_tool.specs.Meets.{Meets, IsEndOfBody, IsComplete, Ready}
+use Rattle.gql_tool.specs.Statuses.{IsOneOf, merged_statuses}
+use Rattle.gql_tool.specs.Meets.{Meets, IsComplete, Ready}
 use Rattle.gql_tool.specs.Words.{Form, ReplayForm}
 use Rattle.gql_io.specs.Files.{Files}
 use Rattle.gql_tool.specs.Replay.{HeardWays}
@@ -93,12 +94,12 @@ merges-boundary f boundary input a b status served none =
     absurd (none (subst IsBoundary (sym body_is.2.is_dash) dash_boundary))
 
 -- where nothing outside fails
-merges-complete : (f : Forest) (a b : Option (List ℕ)) (status : Status) → Meets (MergedWay f) status a b → ¬ (status ≡ ReadFault) → ¬ (status ≡ WriteFault) → IsEndOfBody status
+merges-complete : (f : Forest) (a b : Option (List ℕ)) (status : Status) → Meets (MergedWay f) status a b → ¬ (status ≡ ReadFault) → ¬ (status ≡ WriteFault) → IsOneOf merged_statuses status
 merges-complete f a b ReadFault meets no_read no_write = absurd (no_read refl)
 merges-complete f a b WriteFault meets no_read no_write = absurd (no_write refl)
-merges-complete f a b NoMemory meets no_read no_write = tt
-merges-complete f a b Done meets no_read no_write = tt
-merges-complete f a b _ (o, way, is, sent) no_read no_write = subst IsEndOfBody (sym (is ∙ ap (λ (p : Outcome). p.status) way.2)) tt
+merges-complete f a b NoMemory meets no_read no_write = refl
+merges-complete f a b Done meets no_read no_write = refl
+merges-complete f a b _ (o, way, is, sent) no_read no_write = subst (IsOneOf merged_statuses) (sym (is ∙ ap (λ (p : Outcome). p.status) way.2)) refl
 
 pub replay-complete : (files : Option Files) (input a b : Option (List ℕ)) (form : Option Form) (boundary : List ℕ) (status : Status) → form ≡ Some (ReplayForm boundary)
     → ((f : Forest) → IsServed f boundary input → Meets (MergedWay f) status a b) → ¬ (status ≡ ReadFault) → ¬ (status ≡ WriteFault)

@@ -1,13 +1,14 @@
 -- How a status and what was written meet what the files determine.
-use Rattle.std.specs.Prelude.{◌≡◌, ◌≤◌, ◌<◌, ◌⊎◌, List, [], ℕ, length, Option, None, Some, ⊤, Result, Ok, Err, codes}
+use Rattle.std.specs.Prelude.{◌≡◌, ◌≤◌, ◌⊎◌, List, [], ℕ, length, Option, None, Some, ⊤}
 use Rattle.std.specs.Io.KnownBytes.{Appends, Keeps}
 use Rattle.gql_io.specs.Told.{AppendsPrefix}
 use Rattle.gql_io.specs.Files.{Files}
 use Rattle.gql_tool.specs.declared.status.Status.{Status}
-use Rattle.gql_tool.specs.declared.status.Status.TheVariants.{Done, Refused, Usage, ReadFault, WriteFault, NoMemory, StreamRefused, NoFile, DoorFault, InputsRefused, TooLong}
+use Rattle.gql_tool.specs.declared.status.Status.TheVariants.{Usage, ReadFault, WriteFault, NoMemory}
 use Rattle.gql_tool.specs.Outcome.{Outcome, Ways, names, file_limit}
 use Rattle.gql_tool.specs.Local.{LocalWays}
-use Rattle.gql_tool.specs.Replay.{ReplayWays, IsReplayed}
+use Rattle.gql_tool.specs.Replay.{ReplayWays}
+use Rattle.gql_tool.specs.Statuses.{IsOneOf, local_statuses, judged_statuses, replay_statuses, merged_statuses}
 use Rattle.gql_tool.specs.Served.{IsServed}
 use Rattle.gql_tree.specs.Forest.{Forest}
 use Rattle.gql_tool.specs.Words.{Names, Form, LocalForm, ReplayForm}
@@ -44,18 +45,11 @@ abbrev pub Answers : Option Files → Option (List ℕ) → Option Form → Stat
 Answers files input None status old new = Keeps old new
 Answers files input (Some form) status old new = Ends files input form status old new
 
--- the statuses that `local` ends with in this build, whether the shelf tells or not
-abbrev pub IsAnswer : Status → Type 0
-IsAnswer Usage = ⊥
-IsAnswer DoorFault = ⊥
-IsAnswer InputsRefused = ⊥
-IsAnswer _ = ⊤
-
 -- which statuses a command ends with, whether anything tells or not
 abbrev pub IsEnd : Option Form → Status → Type 0
 IsEnd None status = status ≡ Usage
-IsEnd (Some (LocalForm names workers cut)) status = IsAnswer status
-IsEnd (Some (ReplayForm boundary)) status = IsReplayed status
+IsEnd (Some (LocalForm names workers cut)) status = IsOneOf local_statuses status
+IsEnd (Some (ReplayForm boundary)) status = IsOneOf replay_statuses status
 
 -- the command reads files, or the input
 abbrev pub ReadsFiles : Option Form → Type 0
@@ -70,20 +64,6 @@ ReadsInput _ = ⊥
 abbrev pub NoneLeft : Option (List ℕ) → Option (List ℕ) → Type 0
 NoneLeft None now = ⊤
 NoneLeft (Some bytes) now = now ≡ Some []
-
--- those of `local` that are left where the files are there and nothing outside fails
-abbrev pub IsJudged : Status → Type 0
-IsJudged Done = ⊤
-IsJudged Refused = ⊤
-IsJudged NoMemory = ⊤
-IsJudged StreamRefused = ⊤
-IsJudged _ = ⊥
-
--- those of `replay` that are left where the input is a server's body and nothing outside fails
-abbrev pub IsEndOfBody : Status → Type 0
-IsEndOfBody Done = ⊤
-IsEndOfBody NoMemory = ⊤
-IsEndOfBody _ = ⊥
 
 -- a file that a command can go on with
 abbrev pub HasFile : Files → List ℕ → Type 0
@@ -102,8 +82,8 @@ Ready files input (Some (ReplayForm boundary)) = (f : Forest) × IsServed f boun
 
 -- the statuses that are left then, where nothing outside fails
 abbrev pub IsComplete : Option Form → Status → Type 0
-IsComplete (Some (ReplayForm boundary)) status = IsEndOfBody status
-IsComplete _ status = IsJudged status
+IsComplete (Some (ReplayForm boundary)) status = IsOneOf merged_statuses status
+IsComplete _ status = IsOneOf judged_statuses status
 
 -- the words are the command `replay`, and its input is the body of these regions
 abbrev pub Serves : Forest → Option (List ℕ) → Option Form → Type 0

@@ -1,5 +1,5 @@
 -- What the command `replay` makes of its input.
-use Rattle.std.specs.Prelude.{◌≡◌, ◌≢◌, ◌⊎◌, ℕ, ◌≤◌, List, [], ◌∷◌, ◌++◌, length, Option, None, Some, codes, ⊤}
+use Rattle.std.specs.Prelude.{◌≡◌, ◌≢◌, ◌⊎◌, ℕ, ◌≤◌, List, [], ◌∷◌, ◌++◌, length, Option, None, Some, codes}
 use Rattle.gql_multipart.specs.declared.refusal.FrameKind.TheVariants.{BadBoundary}
 use Rattle.gql_multipart.specs.Body.{IsBoundary}
 use Rattle.gql_merge.specs.declared.state.State.{State}
@@ -7,7 +7,7 @@ use Rattle.gql_merge.specs.Apply.{fresh}
 use Rattle.gql_merge.specs.Same.{IsTypedState}
 use Rattle.gql_merge.specs.Report.{report_of}
 use Rattle.gql_tool.specs.declared.status.Status.{Status}
-use Rattle.gql_tool.specs.declared.status.Status.TheVariants.{Done, ReadFault, WriteFault, NoMemory, StreamRefused, TooLong}
+use Rattle.gql_tool.specs.declared.status.Status.TheVariants.{Done, StreamRefused, TooLong}
 use Rattle.gql_client.specs.Client.{at_byte, Accepts, Refuses, AcceptsEnd, RefusesEnd}
 use Rattle.gql_tool.specs.Outcome.{Outcome, Ways}
 
@@ -61,13 +61,3 @@ abbrev pub ReplayWays : List ℕ → List ℕ → Ways
 ReplayWays boundary input o =
     ((IsBoundary boundary → ⊥) × Tells StreamRefused (Some (at_byte 0 BadBoundary)) fresh o)
     ⊎ (IsBoundary boundary × HeardWays boundary input o)
-
--- the statuses that the command ends with
-abbrev pub IsReplayed : Status → Type 0
-IsReplayed Done = ⊤
-IsReplayed ReadFault = ⊤
-IsReplayed WriteFault = ⊤
-IsReplayed NoMemory = ⊤
-IsReplayed StreamRefused = ⊤
-IsReplayed TooLong = ⊤
-IsReplayed _ = ⊥

@@ -8,10 +8,11 @@ ghost use Rattle.gql_tool.specs.Words.{form_of, names_of};
 ghost use Rattle.gql_tool.specs.Outcome.{names, file_limit};
 ghost use Rattle.gql_tool.specs.Local.{LocalWays};
 ghost use Rattle.gql_tool.specs.LocalClient.{IsNew, Asks, ClientEnds, ClientOf};
-ghost use Rattle.gql_tool.specs.Meets.{Meets, MeetsTold, Answers, IsAnswer, IsJudged, IsComplete, IsEnd, ReadsFiles, ReadsInput, NoneLeft, HasFiles, Ready, Serves};
+ghost use Rattle.gql_tool.specs.Meets.{Meets, MeetsTold, Answers, IsComplete, IsEnd, ReadsFiles, ReadsInput, NoneLeft, HasFiles, Ready, Serves};
 ghost use Rattle.gql_tool.specs.Served.{MergedWay};
 ghost use Rattle.gql_tree.specs.Forest.{Forest};
-ghost use Rattle.gql_tool.specs.inner.Steps.{IsStop, Finds, StopsAt, Requests};
+ghost use Rattle.gql_tool.specs.Statuses.{IsOneOf, local_statuses, judged_statuses};
+ghost use Rattle.gql_tool.specs.inner.Steps.{file_statuses, Finds, StopsAt, Requests};
 ghost use Rattle.gql_tool.specs.hero.Hero.{Runs, judgement_of};
 
 use crate::Status;
@@ -60,7 +61,7 @@ fn file<S: Shelf, O: Sink>(
     ensures within { IfOk result (λ bytes. length bytes ≤ file_limit) }
     ensures kept { OnOk result (Keeps (O.sent output.old) (O.sent output.new)) }
     ensures stops { IfErr result (λ status. StopsAt (S.files shelf.old) name.now status (O.sent output.old) (O.sent output.new)) }
-    ensures statuses { IfErr result IsStop }
+    ensures statuses { IfErr result (IsOneOf file_statuses) }
     ensures same { S.files shelf.new ≡ S.files shelf.old }
     ensures read_fault { Counts (S.faults shelf.old) (S.faults shelf.new) (IsErrOf result Status.ReadFault) }
     ensures write_fault { Counts (O.faults output.old) (O.faults output.new) (IsErrOf result Status.WriteFault) }
@@ -86,7 +87,7 @@ fn requested<S: Shelf, O: Sink>(
     ensures kept { OnOk result (Keeps (O.sent output.old) (O.sent output.new)) }
     ensures stops { IfErr result (λ status. MeetsTold (S.files shelf.old) (LocalWays (names_of words.now))
         status (O.sent output.old) (O.sent output.new)) }
-    ensures statuses { IfErr result IsStop }
+    ensures statuses { IfErr result (IsOneOf file_statuses) }
     ensures same { S.files shelf.new ≡ S.files shelf.old }
     ensures read_fault { Counts (S.faults shelf.old) (S.faults shelf.new) (IsErrOf result Status.ReadFault) }
     ensures write_fault { Counts (O.faults output.old) (O.faults output.new) (IsErrOf result Status.WriteFault) }
@@ -123,7 +124,7 @@ pub fn local<S: Shelf, O: Sink>(
     // The causes of what stops it, whether the shelf tells or not.
     ensures read_fault { Counts (S.faults shelf.old) (S.faults shelf.new) (result ≡ Status.ReadFault) }
     ensures write_fault { Counts (O.faults output.old) (O.faults output.new) (result ≡ Status.WriteFault) }
-    ensures statuses { IsAnswer result }
+    ensures statuses { IsOneOf local_statuses result }
 
     // The status, what is written and what the client is, where the shelf tells.
     ensures answers { MeetsTold (S.files shelf.old) (LocalWays (names_of words.now)) result
@@ -132,7 +133,7 @@ pub fn local<S: Shelf, O: Sink>(
         client.old client.new (O.sent output.old) (O.sent output.new) result }
     ensures complete { HasFiles (S.files shelf.old) (names_of words.now)
         → ¬ Rose (S.faults shelf.old) (S.faults shelf.new) → ¬ Rose (O.faults output.old) (O.faults output.new)
-        → IsJudged result }
+        → IsOneOf judged_statuses result }
 
     ensures same { S.files shelf.new ≡ S.files shelf.old }
 {

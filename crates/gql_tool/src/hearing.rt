@@ -8,7 +8,8 @@ ghost use Rattle.gql_tool.specs.inner.Hearing.{EndsAt, StillTells, heard_of, hea
 ghost use Rattle.gql_tool.specs.Meets.{Meets, MeetsTold, NoneLeft};
 ghost use Rattle.gql_tool.specs.Served.{IsServed, MergedWay};
 ghost use Rattle.gql_tree.specs.Forest.{Forest};
-ghost use Rattle.gql_tool.specs.Replay.{budget, HeardWays, ReplayWays, IsReplayed};
+ghost use Rattle.gql_tool.specs.Statuses.{IsOneOf, replay_statuses};
+ghost use Rattle.gql_tool.specs.Replay.{budget, HeardWays, ReplayWays};
 
 use crate::Status;
 use crate::lines::{put_and_end, put_lines};
@@ -97,7 +98,7 @@ pub(crate) fn hear<I: Source>(client: &mut Client, input: &mut I) -> Hearing
 fn end<O: Sink>(alloc: Global, client: &mut Client, output: &mut O) -> Status
     ensures meets { (boundary bytes : List ℕ) → length bytes ≤ budget → Stands client.old (heard_of boundary bytes)
         → Meets (HeardWays boundary bytes) result (O.sent output.old) (O.sent output.new) }
-    ensures statuses { IsReplayed result × (result ≢ Status.ReadFault) }
+    ensures statuses { IsOneOf replay_statuses result × (result ≢ Status.ReadFault) }
     ensures write_fault { Counts (O.faults output.old) (O.faults output.new) (result ≡ Status.WriteFault) }
 {
     match client.finish() {
@@ -118,7 +119,7 @@ fn replay_to<I: Source, O: Sink>(
         → Meets (HeardWays boundary bytes) result (O.sent output.old) (O.sent output.new) }
     ensures untold { result ≡ Status.ReadFault → Keeps (O.sent output.old) (O.sent output.new) }
     ensures whole { result ≡ Status.Done → NoneLeft (I.left input.old) (I.left input.new) }
-    ensures statuses { IsReplayed result }
+    ensures statuses { IsOneOf replay_statuses result }
     ensures read_fault { Counts (I.faults input.old) (I.faults input.new) (result ≡ Status.ReadFault) }
     ensures write_fault { Counts (O.faults output.old) (O.faults output.new) (result ≡ Status.WriteFault) }
 {
@@ -143,7 +144,7 @@ pub fn replay<I: Source, O: Sink>(
 ) -> Status
     ensures answers { MeetsTold (I.left input.old) (ReplayWays boundary.now) result (O.sent output.old) (O.sent output.new) }
     ensures whole { result ≡ Status.Done → NoneLeft (I.left input.old) (I.left input.new) }
-    ensures statuses { IsReplayed result }
+    ensures statuses { IsOneOf replay_statuses result }
     ensures read_fault { Counts (I.faults input.old) (I.faults input.new) (result ≡ Status.ReadFault) }
     ensures write_fault { Counts (O.faults output.old) (O.faults output.new) (result ≡ Status.WriteFault) }
 

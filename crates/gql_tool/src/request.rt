@@ -8,7 +8,8 @@ ghost use Rattle.gql_tool.specs.Judged.{Parses, Judged, Executed};
 ghost use Rattle.gql_tool.specs.Local.{spot_or_zero, syntax_message, refused, Answered};
 ghost use Rattle.gql_tool.specs.LocalClient.{IsNew, ClientEnds};
 ghost use Rattle.gql_tool.specs.Meets.{Meets};
-ghost use Rattle.gql_tool.specs.inner.Steps.{IsWork, IsDelivery, ended};
+ghost use Rattle.gql_tool.specs.Statuses.{IsOneOf};
+ghost use Rattle.gql_tool.specs.inner.Steps.{request_statuses, delivery_statuses, ended};
 ghost use Rattle.gql_tool.specs.hero.Built.{built, regions_of};
 ghost use Rattle.gql_tool.specs.hero.Hero.{IsOf, CanRun, Runs, request_of, judgement_of};
 
@@ -186,7 +187,7 @@ fn execute<O: Sink>(
     requires cut { 0 < cut }
     requires client { IsNew client.old }
     ensures meets { Meets (Answered (Executed (regions_of request.now))) (ended result) (O.sent output.old) (O.sent output.new) }
-    ensures statuses { IfErr result IsDelivery }
+    ensures statuses { IfErr result (IsOneOf delivery_statuses) }
     ensures client { ClientEnds (λ f. f ≡ regions_of request.now) cut client.old client.new (O.sent output.old) (O.sent output.new) (ended result) }
     ensures write_fault { Counts (O.faults output.old) (O.faults output.new) (IsErrOf result Status.WriteFault) }
 {
@@ -213,7 +214,7 @@ pub(crate) fn answer<O: Sink>(
     requires cut { 0 < cut }
     requires client { IsNew client.old }
     ensures meets { Meets (Answered (judgement_of request.now)) result (O.sent output.old) (O.sent output.new) }
-    ensures statuses { IsWork result }
+    ensures statuses { IsOneOf request_statuses result }
     ensures client { ClientEnds (λ f. judgement_of request.now ≡ Executed f) cut client.old client.new (O.sent output.old) (O.sent output.new) result }
     ensures write_fault { Counts (O.faults output.old) (O.faults output.new) (result ≡ Status.WriteFault) }
 {

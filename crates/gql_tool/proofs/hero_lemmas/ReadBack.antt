@@ -21,12 +21,11 @@ use Rattle.gql_tree.specs.declared.Payload.{Payload}
 use Rattle.gql_tree.specs.Json.{put_all, data_of}
 use Rattle.gql_tree.specs.Names.{apart}
 use Rattle.gql_tree.specs.Typed.{all_members, is_typed}
-use Rattle.gql_payload.specs.PayloadText.{present, unless_empty, if_some, key_data, path_data, location_data, locations_data, fault_data, pending_data, entry_data, completed_data, payload_data, payload_text}
+use Rattle.gql_payload.specs.PayloadText.{present, unless_empty, if_some, key_data, path_data, location_data, locations_data, fault_data, pending_data, entry_data, completed_data, payload_data}
 use Rattle.gql_tree.specs.FirstPayloads.{first_payloads}
 use Rattle.gql_tree.proofs.Json.{data_Null, data_Int, data_Text, data_Object}
 use Rattle.gql_tree.proofs.Typed.{typed_Null, typed_Int, typed_Text, typed_Object, and_true}
-use Rattle.gql_tree.specs.Sound.{IsSound, SamePayload}
-use Rattle.gql_payload.specs.Reading.{Decodes}
+use Rattle.gql_tree.specs.Sound.{IsSound}
 use Rattle.gql_tree.specs.Typed.{IsTypedValue, IsTypedKey, IsTypedFault, IsTypedPending, IsTypedEntry, IsTypedCompleted, IsTypedPayload}
 use Rattle.gql_payload.proofs.Back.{text_back}
 use Rattle.gql_payload.proofs.Contents.{Part as Member, fault_parts, pending_parts, entry_parts, completed_parts, payload_parts}

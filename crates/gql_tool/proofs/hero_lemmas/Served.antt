@@ -16,8 +16,8 @@ use Rattle.gql_tool.specs.declared.request.Request.{Request}
 use Rattle.gql_tool.specs.declared.request.Request.TheVariants.{NoText, NoDocument, NotBuilt, Built}
 use Rattle.gql_tool.specs.Judged.{Executed, Parses, Judged}
 use Rattle.gql_tool.specs.inner.Servable.{IsReadable, CanBeServed}
-use Rattle.gql_tool.specs.hero.Built.{request_with, built, regions, regions_of}
-use Rattle.gql_tool.specs.hero.Hero.{IsBuilt, IsOf, CanRun, Runs, request_of, judgement_of}
+use Rattle.gql_tool.specs.hero.Built.{built, regions, regions_of}
+use Rattle.gql_tool.specs.hero.Hero.{IsBuilt, IsOf, Runs, request_of, judgement_of}
 use Rattle.gql_tool.proofs.hero_lemmas.Forests.{hero_is_lone}
 use Rattle.gql_tool.proofs.hero_lemmas.ReadBack.{hero_payloads_are_read_back}
 use Rattle.gql_tool.proofs.hero_lemmas.Reading.{some_map, built-read, built-once, built-stands}

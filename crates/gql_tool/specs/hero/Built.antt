@@ -1,5 +1,5 @@
 -- Which requests this build executes, and the regions that they have.
-use Rattle.std.specs.Prelude.{ℕ, ◌&&◌, List, Option, None, Some, option_map, option_and_then, bytes_eq, codes, if◌then◌else◌}
+use Rattle.std.specs.Prelude.{ℕ, ◌&&◌, List, Option, None, option_map, option_and_then, bytes_eq, codes, if◌then◌else◌}
 use Rattle.gql_tree.specs.Forest.{Forest}
 use Rattle.gql_model.specs.Operations.{forest}
 use Rattle.gql_model.specs.declared.syntax.Document.{Document}

@@ -1,6 +1,6 @@
 -- What serving asks of the regions of a request, for private clauses: the one thing that the proofs of a command need of
 -- what is executed.
-use Rattle.std.specs.Prelude.{ℕ, ◌≤◌, List}
+use Rattle.std.specs.Prelude.{◌≤◌, List}
 use Rattle.std.specs.List.{AllByRecursion as Each}
 use Rattle.serde_json.specs.Data.{depth}
 use Rattle.gql_tree.specs.declared.Value.{Value}

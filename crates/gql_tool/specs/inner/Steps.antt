@@ -1,5 +1,5 @@
 -- How the steps of a command end, for private clauses.
-use Rattle.std.specs.Prelude.{◌≡◌, ◌≤◌, ◌<◌, List, ℕ, length, Option, None, Some, ⊤, Result, Ok, Err, codes}
+use Rattle.std.specs.Prelude.{◌≡◌, ◌≤◌, ◌<◌, List, [], ◌∷◌, ℕ, length, Option, None, Some, ⊤, Result, Ok, Err, codes}
 use Rattle.gql_io.specs.Files.{Files}
 use Rattle.gql_tool.specs.declared.status.Status.{Status}
 use Rattle.gql_tool.specs.declared.status.Status.TheVariants.{Done, Refused, ReadFault, WriteFault, NoMemory, StreamRefused, NoFile, TooLong}
@@ -9,29 +9,16 @@ use Rattle.gql_tool.specs.Judged.{Judgement, Judged}
 use Rattle.gql_tool.specs.Meets.{MeetsTold}
 
 -- the statuses that end a command at a file
-abbrev pub IsStop : Status → Type 0
-IsStop ReadFault = ⊤
-IsStop WriteFault = ⊤
-IsStop NoMemory = ⊤
-IsStop NoFile = ⊤
-IsStop TooLong = ⊤
-IsStop _ = ⊥
+abbrev pub file_statuses : List Status
+file_statuses = ReadFault ∷ WriteFault ∷ NoMemory ∷ NoFile ∷ TooLong ∷ []
 
 -- those that end it behind its files
-abbrev pub IsWork : Status → Type 0
-IsWork Done = ⊤
-IsWork Refused = ⊤
-IsWork WriteFault = ⊤
-IsWork NoMemory = ⊤
-IsWork StreamRefused = ⊤
-IsWork _ = ⊥
+abbrev pub request_statuses : List Status
+request_statuses = Done ∷ Refused ∷ WriteFault ∷ NoMemory ∷ StreamRefused ∷ []
 
--- those that end a request that is executed
-abbrev pub IsDelivery : Status → Type 0
-IsDelivery WriteFault = ⊤
-IsDelivery NoMemory = ⊤
-IsDelivery StreamRefused = ⊤
-IsDelivery _ = ⊥
+-- those that stop a delivery
+abbrev pub delivery_statuses : List Status
+delivery_statuses = WriteFault ∷ NoMemory ∷ StreamRefused ∷ []
 
 -- the file has these bytes, where the shelf tells
 abbrev pub Finds : Option Files → List ℕ → List ℕ → Type 0
