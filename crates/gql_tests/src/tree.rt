@@ -1,8 +1,8 @@
 //! Values and paths: that the calls succeed with ample memory, on values whose answers are known.
 
+mod as_json;
 mod copies;
 mod grafts;
-mod json;
 
 use crate::values::{object, one, path, text};
 use gql_tree::{Fields, NoMemory, Text, Value};
