@@ -13,21 +13,41 @@ const ANNOUNCED: &str =
 const DELIVERED: &str =
     "{\"completed\":[{\"id\":\"0\"}],\"hasNext\":false,\"incremental\":[{\"data\":{\"name\":\"Luke\"},\"id\":\"0\"}]}";
 
-/// What a client says of the payload of a text: `Ok`, or the refusal's name.
-fn said(alloc: Global, merger: &mut Merger, text: &str) -> Result<&'static str, Fail> {
+/// What a client says behind its answer that has the announced fragment open.
+const KEPT: &str = "|more|1|0|{\"data\":{\"hero\":{\"id\":\"1\"}},\"errors\":[],\"failures\":[]}\n";
+
+/// What a client says of the payload of a text: `Ok` or the refusal's name, whether more comes, how many ids are open,
+/// how many fragments failed, and its report.
+fn said(alloc: Global, merger: &mut Merger, text: &str) -> Result<String, Fail> {
     let payload = decode(alloc, text.as_bytes())?;
-    Ok(match merger.apply(&payload) {
+    let answer = match merger.apply(&payload) {
         Ok(()) => "Ok",
         Err(refusal) => refusal.name(),
-    })
+    };
+    let next = if merger.has_next() { "more" } else { "end" };
+    let open = merger.open_ids().len();
+    let failed = merger.failed().len();
+    let report = merger.report()?;
+    let report = report.as_str();
+    Ok(format!(in alloc; "{answer}|{next}|{open}|{failed}|{report}\n")?)
+}
+
+/// What a new client says of each text, a line each.
+fn all_said(alloc: Global, texts: &[&str]) -> Result<String, Fail> {
+    let mut merger = Merger::new(alloc);
+    let mut all = String::new(alloc);
+    for text in texts {
+        let line = said(alloc, &mut merger, text)?;
+        all.push_str(line.as_str())?;
+    }
+    Ok(all)
 }
 
 #[test]
 fn payloads_refused(rt: HostRuntime) -> Result<(), Fail> {
     let alloc = rt.alloc();
     let mut merger = Merger::new(alloc);
-    assert_eq!(rt; said(alloc, &mut merger, ANNOUNCED)?, "Ok");
-    let before = "{\"data\":{\"hero\":{\"id\":\"1\"}},\"errors\":[],\"failures\":[]}";
+    said(alloc, &mut merger, ANNOUNCED)?;
     for (text, refusal) in [
         (
             "{\"hasNext\":true,\"incremental\":[{\"data\":{\"name\":\"2\"},\"id\":\"9\"}]}",
@@ -56,47 +76,48 @@ fn payloads_refused(rt: HostRuntime) -> Result<(), Fail> {
         ("{\"hasNext\":false}", "OpenAtEnd"),
         ("{\"data\":{},\"hasNext\":true}", "BadInitial"),
     ] {
-        assert_eq!(rt; said(alloc, &mut merger, text)?, refusal, "{text}");
-        assert_eq!(rt; merger.open_ids().len(), 1, "{text}");
-        assert_eq!(rt; merger.report()?.as_str(), before, "{text}");
-        assert!(rt; merger.has_next(), "{text}");
+        let said = said(alloc, &mut merger, text)?;
+        let want = format!(in alloc; "{refusal}{KEPT}")?;
+        assert_eq!(rt; said.as_str(), want.as_str(), "{text}");
     }
-    assert_eq!(rt; said(alloc, &mut merger, DELIVERED)?, "Ok");
-    assert_eq!(rt; said(alloc, &mut merger, DELIVERED)?, "AfterEnd");
-    assert!(rt; !merger.has_next());
-    let whole =
-        "{\"data\":{\"hero\":{\"id\":\"1\",\"name\":\"Luke\"}},\"errors\":[],\"failures\":[]}";
-    assert_eq!(rt; merger.report()?.as_str(), whole);
+    Ok(())
+}
+
+#[test]
+fn delivered_and_ended(rt: HostRuntime) -> Result<(), Fail> {
+    let alloc = rt.alloc();
+    assert_eq!(rt;
+        all_said(alloc, &[ANNOUNCED, DELIVERED, DELIVERED])?.as_str(),
+        "Ok|more|1|0|{\"data\":{\"hero\":{\"id\":\"1\"}},\"errors\":[],\"failures\":[]}\nOk|end|0|0|{\"data\":{\"hero\":{\"id\":\"1\",\"name\":\"Luke\"}},\"errors\":[],\"failures\":[]}\nAfterEnd|end|0|0|{\"data\":{\"hero\":{\"id\":\"1\",\"name\":\"Luke\"}},\"errors\":[],\"failures\":[]}\n"
+    );
+    Ok(())
+}
+
+#[test]
+fn nothing_merged(rt: HostRuntime) -> Result<(), Fail> {
+    assert_eq!(rt; Merger::new(rt.alloc()).report()?.as_str(), "none");
     Ok(())
 }
 
 #[test]
 fn errors_without_data(rt: HostRuntime) -> Result<(), Fail> {
-    let alloc = rt.alloc();
-    let mut merger = Merger::new(alloc);
-    assert_eq!(rt; merger.report()?.as_str(), "none");
     let unsorted =
         "{\"errors\":[{\"locations\":[{\"column\":2,\"line\":1}],\"message\":\"b\"},{\"locations\":[{\"column\":3,\"line\":1}],\"message\":\"a\"},{\"locations\":[{\"column\":1,\"line\":1}],\"message\":\"a\"}]}";
-    assert_eq!(rt; said(alloc, &mut merger, unsorted)?, "Ok");
-    let report =
-        "{\"data\":null,\"errors\":[{\"locations\":[{\"column\":1,\"line\":1}],\"message\":\"a\"},{\"locations\":[{\"column\":3,\"line\":1}],\"message\":\"a\"},{\"locations\":[{\"column\":2,\"line\":1}],\"message\":\"b\"}],\"failures\":[]}";
-    assert_eq!(rt; merger.report()?.as_str(), report);
+    assert_eq!(rt;
+        all_said(rt.alloc(), &[unsorted])?.as_str(),
+        "Ok|end|0|0|{\"data\":null,\"errors\":[{\"locations\":[{\"column\":1,\"line\":1}],\"message\":\"a\"},{\"locations\":[{\"column\":3,\"line\":1}],\"message\":\"a\"},{\"locations\":[{\"column\":2,\"line\":1}],\"message\":\"b\"}],\"failures\":[]}\n"
+    );
     Ok(())
 }
 
 #[test]
 fn failed_fragments(rt: HostRuntime) -> Result<(), Fail> {
-    let alloc = rt.alloc();
-    let mut merger = Merger::new(alloc);
-    assert_eq!(rt; said(alloc, &mut merger, ANNOUNCED)?, "Ok");
     let failed =
         "{\"completed\":[{\"errors\":[{\"locations\":[{\"column\":41,\"line\":1}],\"message\":\"bang\"}],\"id\":\"0\"}],\"hasNext\":true}";
-    assert_eq!(rt; said(alloc, &mut merger, failed)?, "Ok");
-    assert_eq!(rt; merger.failed().len(), 1);
-    assert_eq!(rt; said(alloc, &mut merger, DELIVERED)?, "UnknownId");
-    let report =
-        "{\"data\":{\"hero\":{\"id\":\"1\"}},\"errors\":[],\"failures\":[{\"errors\":[{\"locations\":[{\"column\":41,\"line\":1}],\"message\":\"bang\"}],\"label\":\"D\",\"path\":[\"hero\"]}]}";
-    assert_eq!(rt; merger.report()?.as_str(), report);
+    assert_eq!(rt;
+        all_said(rt.alloc(), &[ANNOUNCED, failed, DELIVERED])?.as_str(),
+        "Ok|more|1|0|{\"data\":{\"hero\":{\"id\":\"1\"}},\"errors\":[],\"failures\":[]}\nOk|more|0|1|{\"data\":{\"hero\":{\"id\":\"1\"}},\"errors\":[],\"failures\":[{\"errors\":[{\"locations\":[{\"column\":41,\"line\":1}],\"message\":\"bang\"}],\"label\":\"D\",\"path\":[\"hero\"]}]}\nUnknownId|more|0|1|{\"data\":{\"hero\":{\"id\":\"1\"}},\"errors\":[],\"failures\":[{\"errors\":[{\"locations\":[{\"column\":41,\"line\":1}],\"message\":\"bang\"}],\"label\":\"D\",\"path\":[\"hero\"]}]}\n"
+    );
     Ok(())
 }
 

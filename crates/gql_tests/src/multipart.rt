@@ -238,22 +238,30 @@ fn ends(rt: HostRuntime) -> Result<(), Fail> {
 }
 
 #[test]
+fn keeps_the_limit_of_blanks(rt: HostRuntime) -> Result<(), Fail> {
+    let alloc = rt.alloc();
+    for (count, want) in [(64, "[]more"), (65, "BadDelimiter 68")] {
+        let bytes = filled(alloc, "---", b' ', count, "\r\n\r\n---")?;
+        let said = told(alloc, "-", bytes.as_slice())?;
+        assert_eq!(rt; said.as_slice(), want.as_bytes(), "at {count}");
+    }
+    Ok(())
+}
+
+#[test]
 fn keeps_limits(rt: HostRuntime) -> Result<(), Fail> {
     let alloc = rt.alloc();
-    let table: [(&str, u8, usize, &str, &str); 10] = [
-        ("---", b' ', 64, "\r\n\r\n---", "[]more"),
-        ("---", b' ', 65, "\r\n\r\n---", "BadDelimiter 68"),
-        ("", b'x', 16_382, "\r\n---", "more"),
-        ("", b'x', 16_383, "\r\n---", "BadPreamble 16383"),
-        ("", b'x', 16_382, "\r\n--x", "BadPreamble 16387"),
-        ("---\r\nA:", b'x', 16_380, "\r\n\r\n---", "[]more"),
-        ("---\r\nA:", b'x', 16_381, "\r\n\r\n---", "BadHeader 16388"),
-        ("---\r\n", b'x', 16_381, ":\r\n\r\n---", "[]more"),
-        ("---\r\n", b'x', 16_382, ":\r\n\r\n---", "BadHeader 16387"),
-        ("---\r\nA:\r\n", b'x', 16_377, ":x\r\n", "BadHeader 16388"),
-    ];
-    for (front, byte, count, back, want) in table {
-        let bytes = filled(alloc, front, byte, count, back)?;
+    for (front, count, back, want) in [
+        ("", 16_382, "\r\n---", "more"),
+        ("", 16_383, "\r\n---", "BadPreamble 16383"),
+        ("", 16_382, "\r\n--x", "BadPreamble 16387"),
+        ("---\r\nA:", 16_380, "\r\n\r\n---", "[]more"),
+        ("---\r\nA:", 16_381, "\r\n\r\n---", "BadHeader 16388"),
+        ("---\r\n", 16_381, ":\r\n\r\n---", "[]more"),
+        ("---\r\n", 16_382, ":\r\n\r\n---", "BadHeader 16387"),
+        ("---\r\nA:\r\n", 16_377, ":x\r\n", "BadHeader 16388"),
+    ] {
+        let bytes = filled(alloc, front, b'x', count, back)?;
         let said = told(alloc, "-", bytes.as_slice())?;
         assert_eq!(rt; said.as_slice(), want.as_bytes(), "at {count}");
     }

@@ -45,23 +45,17 @@ fn replayed(
     run(alloc, line, shelf, input, NO_FAULT)
 }
 
-/// What is replayed of a body: the status, a bar, and what is written.
+/// What is told of the replay of a body.
 fn told(alloc: Global, bytes: &[u8], step: usize) -> Result<String, Fail> {
-    let end = replayed(alloc, "replay -", bytes, step, 999_999)?;
-    let status = end.status.number();
-    let written = end.output.sent().to_vec(alloc)?;
-    let Ok(written) = String::from_utf8(written) else {
-        return Err(Fail::new("no text"));
-    };
-    Ok(format!(in alloc; "{status}|{written}")?)
+    replayed(alloc, "replay -", bytes, step, 999_999)?.told(alloc)
 }
 
 /// The same, of a body that is taken, or refused for a reason.
 fn expected(alloc: Global, reason: &str, report: &str) -> Result<String, Fail> {
     if reason == "taken" {
-        return Ok(format!(in alloc; "0|merged {report}\n")?);
+        return Ok(format!(in alloc; "0|0|merged {report}\n")?);
     }
-    Ok(format!(in alloc; "6|refused {reason}\nmerged {report}\n")?)
+    Ok(format!(in alloc; "6|0|refused {reason}\nmerged {report}\n")?)
 }
 
 #[test]
@@ -238,9 +232,9 @@ fn every_front_of_three_parts(rt: HostRuntime) -> Result<(), Fail> {
     let last = bytes.len().saturating_sub(2);
     for length in 0..=bytes.len() {
         let told = told(alloc, &bytes[..length], 64)?;
-        let truncated = told.starts_with("6|refused end: Truncated\n");
+        let truncated = told.starts_with("6|0|refused end: Truncated\n");
         assert_eq!(rt; truncated, length < last, "{length}");
-        assert_eq!(rt; told.starts_with("0|merged "), length >= last, "{length}");
+        assert_eq!(rt; told.starts_with("0|0|merged "), length >= last, "{length}");
     }
     assert!(rt;
         told(alloc, bytes.as_slice(), 64)?.ends_with(
@@ -251,66 +245,65 @@ fn every_front_of_three_parts(rt: HostRuntime) -> Result<(), Fail> {
 }
 
 #[test]
-fn what_stops_a_replay(rt: HostRuntime) -> Result<(), Fail> {
+fn what_is_replayed(rt: HostRuntime) -> Result<(), Fail> {
     let alloc = rt.alloc();
-    // A command line, an input, the call of it that fails, the status and what is written.
-    for (line, bytes, fails, status, written) in [
+    // A command line, an input, and what is told.
+    for (line, bytes, told) in [
         (
             "replay ",
-            b"".as_slice(),
-            999,
-            6,
-            b"refused byte 0: BadBoundary\nmerged none\n".as_slice(),
+            "",
+            "6|0|refused byte 0: BadBoundary\nmerged none\n",
         ),
         (
             "replay -",
-            b"-----",
-            999,
-            6,
-            b"refused byte 4: BadDelimiter\nmerged none\n",
+            "-----",
+            "6|0|refused byte 4: BadDelimiter\nmerged none\n",
         ),
         (
             "replay -",
-            b"---\n",
-            999,
-            6,
-            b"refused byte 4: BadDelimiter\nmerged none\n",
+            "---\n",
+            "6|0|refused byte 4: BadDelimiter\nmerged none\n",
         ),
         (
             "replay -",
-            b"---\r\nContent\r\n",
-            999,
-            6,
-            b"refused byte 13: BadHeader\nmerged none\n",
+            "---\r\nContent\r\n",
+            "6|0|refused byte 13: BadHeader\nmerged none\n",
         ),
         (
+            "replay -",
+            "---\r\n\r\n{\"data\":{}}\r\n-----",
+            "0|0|merged {\"data\":{},\"errors\":[],\"failures\":[]}\n",
+        ),
+        (
+            "replay -",
+            "---\r\n\r\n{\r\n---",
+            "6|0|refused payload 0: NotJson\nmerged none\n",
+        ),
+        (
+            "replay -",
+            "x\r\n---\r\n\r\n{\"pending\":[{\"path\":[\"hero\"],\"id\":\"7\"}],\"hasNext\":true,\"data\":{\"hero\":{}},\"extensions\":{}}\r\n---\r\n\r\n{\"hasNext\":true,\"incremental\":[{\"id\":\"7\",\"data\":{\"age\":20}}],\"completed\":[{\"id\":\"7\"}]}\r\n---\r\n\r\n{\"hasNext\":false}\r\n-----\r\n",
+            "0|0|merged {\"data\":{\"hero\":{\"age\":20}},\"errors\":[],\"failures\":[]}\n",
+        ),
+    ] {
+        let end = replayed(alloc, line, bytes.as_bytes(), 9, 999)?;
+        assert_eq!(rt; end.told(alloc)?.as_str(), told);
+    }
+    Ok(())
+}
+
+#[test]
+fn what_stops_a_replay(rt: HostRuntime) -> Result<(), Fail> {
+    let alloc = rt.alloc();
+    // The call of the input that fails.
+    for fails in [0, 1] {
+        let end = replayed(
+            alloc,
             "replay -",
             b"---\r\n\r\n{\"data\":{}}\r\n-----",
-            999,
-            0,
-            b"merged {\"data\":{},\"errors\":[],\"failures\":[]}\n",
-        ),
-        (
-            "replay -",
-            b"---\r\n\r\n{\r\n---",
-            999,
-            6,
-            b"refused payload 0: NotJson\nmerged none\n",
-        ),
-        (
-            "replay -",
-            b"x\r\n---\r\n\r\n{\"pending\":[{\"path\":[\"hero\"],\"id\":\"7\"}],\"hasNext\":true,\"data\":{\"hero\":{}},\"extensions\":{}}\r\n---\r\n\r\n{\"hasNext\":true,\"incremental\":[{\"id\":\"7\",\"data\":{\"age\":20}}],\"completed\":[{\"id\":\"7\"}]}\r\n---\r\n\r\n{\"hasNext\":false}\r\n-----\r\n",
-            999,
-            0,
-            b"merged {\"data\":{\"hero\":{\"age\":20}},\"errors\":[],\"failures\":[]}\n",
-        ),
-        ("replay -", b"---\r\n\r\n{\"data\":{}}\r\n-----", 0, 3, b""),
-        ("replay -", b"---\r\n\r\n{\"data\":{}}\r\n-----", 1, 3, b""),
-    ] {
-        let end = replayed(alloc, line, bytes, 9, fails)?;
-        assert_eq!(rt; end.status.number(), status);
-        assert_eq!(rt; end.output.sent(), written);
-        assert_eq!(rt; end.client.cuts(), 0);
+            9,
+            fails,
+        )?;
+        assert_eq!(rt; end.told(alloc)?.as_str(), "3|0|");
     }
     Ok(())
 }
@@ -355,7 +348,7 @@ fn a_preamble_without_end(rt: HostRuntime) -> Result<(), Fail> {
     let bytes = vec![in alloc; b'x'; 40_000]?;
     assert_eq!(rt;
         told(alloc, bytes.as_slice(), 4096)?.as_str(),
-        "6|refused byte 16383: BadPreamble\nmerged none\n"
+        "6|0|refused byte 16383: BadPreamble\nmerged none\n"
     );
     Ok(())
 }

@@ -15,6 +15,19 @@ pub(crate) struct Ending {
     pub(crate) client: Client,
 }
 
+impl Ending {
+    /// The status, how many cuts the client took, and what is written, with a bar between two.
+    pub(crate) fn told(&self, alloc: Global) -> Result<String, Fail> {
+        let status = self.status.number();
+        let cuts = self.client.cuts();
+        let written = self.output.sent().to_vec(alloc)?;
+        let Ok(written) = String::from_utf8(written) else {
+            return Err(Fail::new("no text"));
+        };
+        Ok(format!(in alloc; "{status}|{cuts}|{written}")?)
+    }
+}
+
 /// No call of the output fails.
 pub(crate) const NO_FAULT: SinkFault = SinkFault { call: 99, taken: 0 };
 
@@ -22,9 +35,9 @@ pub(crate) const NO_FAULT: SinkFault = SinkFault { call: 99, taken: 0 };
 pub(crate) const SCHEMA: &[u8] =
     b"type Query { hero: Person crew: [Person!] cast: [Person] none: [Person] }\ntype Person { id: ID! name: String! age: Int boom: String!\n  nick(upper: Boolean = false): String friends: [Person!]! rival: Person }\n";
 
-/// The body of a request that isn't executed yet.
-pub(crate) const NOT_BUILT: &[u8] =
-    b"---\r\nContent-Type: application/json; charset=utf-8\r\n\r\n{\"errors\":[{\"message\":\"NotBuilt\"}]}\r\n-----\r\n";
+/// What is told of a request that isn't executed yet.
+pub(crate) const NOT_BUILT: &str =
+    "1|0|---\r\nContent-Type: application/json; charset=utf-8\r\n\r\n{\"errors\":[{\"message\":\"NotBuilt\"}]}\r\n-----\r\n";
 
 /// A schema, tables and a document under the names `s`, `t` and `d`.
 pub(crate) fn files(
@@ -58,6 +71,15 @@ pub(crate) fn words(alloc: Global, line: &str) -> Result<Vec<Text>, NoMemory> {
         words.push(Text::copy_of(alloc, word)?)?;
     }
     Ok(words)
+}
+
+/// The texts, one behind another.
+pub(crate) fn joined(alloc: Global, texts: &[&str]) -> Result<String, NoMemory> {
+    let mut joined = String::new(alloc);
+    for text in texts {
+        joined.push_str(text)?;
+    }
+    Ok(joined)
 }
 
 /// Runs the program on a command line, where this call of the output fails.

@@ -1,6 +1,6 @@
 //! Which tables are read, and what they say.
 
-use crate::running::{Ending, NO_FAULT, NOT_BUILT, SCHEMA, files, no_input, run};
+use crate::running::{NO_FAULT, NOT_BUILT, SCHEMA, files, joined, no_input, run};
 use gql_io::MemoryShelf;
 use std::alloc::Global;
 use std::test::Fail;
@@ -144,24 +144,20 @@ const ROWS: &[(&[u8], bool)] = &[
     ),
 ];
 
-/// What a document is answered over these tables.
-fn answered(alloc: Global, tables: &[u8], document: &[u8]) -> Result<Ending, Fail> {
+/// What is told of a document over these tables.
+fn answered(alloc: Global, tables: &[u8], document: &[u8]) -> Result<String, Fail> {
     let shelf = MemoryShelf::new(files(alloc, SCHEMA, tables, document)?, Vec::new(alloc));
-    run(alloc, "local s t d - 0 7", shelf, no_input(alloc), NO_FAULT)
+    run(alloc, "local s t d - 0 7", shelf, no_input(alloc), NO_FAULT)?.told(alloc)
 }
 
 #[test]
 fn which_tables_are_read(rt: HostRuntime) -> Result<(), Fail> {
     let alloc = rt.alloc();
     for (tables, is_read) in ROWS {
-        let end = answered(alloc, tables, b"{ hero { id } }")?;
-        let told = String::from_utf8_lossy(alloc, tables)?;
-        if *is_read {
-            assert_eq!(rt; end.status.number(), 0, "{told}");
-        } else {
-            assert_eq!(rt; end.status.number(), 1, "{told}");
-            assert_eq!(rt; end.output.sent(), NOT_BUILT, "{told}");
-        }
+        let told = answered(alloc, tables, b"{ hero { id } }")?;
+        let text = String::from_utf8_lossy(alloc, tables)?;
+        let front = if *is_read { "0|" } else { NOT_BUILT };
+        assert!(rt; told.starts_with(front), "{text}");
     }
     Ok(())
 }
@@ -197,14 +193,11 @@ fn what_the_example_says_of_each_hero(rt: HostRuntime) -> Result<(), Fail> {
             "{\"data\":{\"hero\":null},\"errors\":[{\"locations\":[{\"column\":10,\"line\":1}],\"message\":\"bang\",\"path\":[\"hero\",\"boom\"]}],\"failures\":[]}",
         ),
     ] {
-        let tables = format!(in alloc; "{EXAMPLE_BEFORE}{id}{EXAMPLE_BEHIND}")?;
-        let end = answered(alloc, tables.as_bytes(), document.as_bytes())?;
-        let line = format!(in alloc; "merged {merged}\n")?;
-        assert_eq!(rt; end.status.number(), 0, "{document} of {id}");
-        assert!(rt;
-            end.output.sent().ends_with(line.as_bytes()),
-            "{document} of {id}"
-        );
+        let tables = joined(alloc, &[EXAMPLE_BEFORE, id, EXAMPLE_BEHIND])?;
+        let told = answered(alloc, tables.as_bytes(), document.as_bytes())?;
+        let line = joined(alloc, &["\nmerged ", merged, "\n"])?;
+        assert!(rt; told.starts_with("0|"), "{document} of {id}");
+        assert!(rt; told.ends_with(line.as_str()), "{document} of {id}");
     }
     Ok(())
 }

@@ -88,6 +88,18 @@ fn selections_refused(rt: HostRuntime) -> Result<(), Fail> {
         ("{a:}", "Unexpected 1:4"),
         ("{a:1}", "Unexpected 1:4"),
         ("{a:b:c}", "Unexpected 1:5"),
+    ];
+    for (text, want) in table {
+        let got = shown(alloc, text)?;
+        assert_eq!(rt; got.as_str(), want, "{text}");
+    }
+    Ok(())
+}
+
+#[test]
+fn arguments_refused(rt: HostRuntime) -> Result<(), Fail> {
+    let alloc = rt.alloc();
+    let table = [
         ("{a(", "Unexpected 1:4"),
         ("{a()}", "Unexpected 1:4"),
         ("{a(1:b)}", "Unexpected 1:4"),
@@ -106,6 +118,18 @@ fn selections_refused(rt: HostRuntime) -> Result<(), Fail> {
         ("{a(b:{1:2})}", "Unexpected 1:7"),
         ("{a(b:{c})}", "Unexpected 1:8"),
         ("{a(b:{c:})}", "Unexpected 1:9"),
+    ];
+    for (text, want) in table {
+        let got = shown(alloc, text)?;
+        assert_eq!(rt; got.as_str(), want, "{text}");
+    }
+    Ok(())
+}
+
+#[test]
+fn directives_and_spreads_refused(rt: HostRuntime) -> Result<(), Fail> {
+    let alloc = rt.alloc();
+    let table = [
         ("{a@}", "Unexpected 1:4"),
         ("{a@b()}", "Unexpected 1:6"),
         ("{a@b@", "Unexpected 1:6"),
@@ -153,6 +177,18 @@ fn definitions_refused(rt: HostRuntime) -> Result<(), Fail> {
         ("query Q(){a}", "Unexpected 1:9"),
         ("query(a:T){a}", "Unexpected 1:7"),
         ("query($", "Unexpected 1:8"),
+    ];
+    for (text, want) in table {
+        let got = shown(alloc, text)?;
+        assert_eq!(rt; got.as_str(), want, "{text}");
+    }
+    Ok(())
+}
+
+#[test]
+fn variables_refused(rt: HostRuntime) -> Result<(), Fail> {
+    let alloc = rt.alloc();
+    let table = [
         ("query($a){b}", "Unexpected 1:9"),
         ("query($a:){b}", "Unexpected 1:10"),
         ("query($a:$T){b}", "Unexpected 1:10"),
@@ -167,6 +203,18 @@ fn definitions_refused(rt: HostRuntime) -> Result<(), Fail> {
         ("query($a:T@d(e:$c)){b}", "Unexpected 1:16"),
         ("query($a:T $b){b}", "Unexpected 1:14"),
         ("query($a:T)", "Unexpected 1:12"),
+    ];
+    for (text, want) in table {
+        let got = shown(alloc, text)?;
+        assert_eq!(rt; got.as_str(), want, "{text}");
+    }
+    Ok(())
+}
+
+#[test]
+fn fragments_refused(rt: HostRuntime) -> Result<(), Fail> {
+    let alloc = rt.alloc();
+    let table = [
         ("fragment", "Unexpected 1:9"),
         ("fragment{a}", "Unexpected 1:9"),
         ("fragment F", "Unexpected 1:11"),

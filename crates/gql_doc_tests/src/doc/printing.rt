@@ -132,29 +132,46 @@ fn operations(rt: HostRuntime) -> Result<(), Fail> {
     Ok(())
 }
 
-#[test]
-fn fragments(rt: HostRuntime) -> Result<(), Fail> {
-    let alloc = rt.alloc();
-    let inline = Selection::Inline(InlineNode {
+/// `... on Droid { id name }`
+fn on_droids(alloc: Global) -> Result<Selection, NoMemory> {
+    let selections = two(alloc, leaf(alloc, "id")?, leaf(alloc, "name")?)?;
+    Ok(Selection::Inline(InlineNode {
         condition: Some(text(alloc, "Droid")?),
         directives: Listed::new(alloc),
-        selections: two(alloc, leaf(alloc, "id")?, leaf(alloc, "name")?)?,
+        selections,
         spot: HERE,
-    });
-    let spread = Selection::Spread(SpreadNode {
-        name: text(alloc, "More")?,
+    }))
+}
+
+fn spread(alloc: Global, name: &str) -> Result<Selection, NoMemory> {
+    Ok(Selection::Spread(SpreadNode {
+        name: text(alloc, name)?,
         directives: Listed::new(alloc),
         spot: HERE,
-    });
-    let fragment = FragmentDef {
-        name: text(alloc, "F")?,
+    }))
+}
+
+/// A fragment on heroes without directives.
+fn on_heroes(
+    alloc: Global,
+    name: &str,
+    selections: Listed<Selection>,
+) -> Result<Definition, NoMemory> {
+    Ok(Definition::Fragment(FragmentDef {
+        name: text(alloc, name)?,
         condition: text(alloc, "Hero")?,
         condition_spot: HERE,
         directives: Listed::new(alloc),
-        selections: two(alloc, inline, spread)?,
+        selections,
         spot: HERE,
-    };
-    let got = printed(alloc, Definition::Fragment(fragment))?;
+    }))
+}
+
+#[test]
+fn fragments(rt: HostRuntime) -> Result<(), Fail> {
+    let alloc = rt.alloc();
+    let selections = two(alloc, on_droids(alloc)?, spread(alloc, "More")?)?;
+    let got = printed(alloc, on_heroes(alloc, "F", selections)?)?;
     assert_eq!(rt;
         got.as_str(),
         "fragment F on Hero { ... on Droid { id name } ... More }"
