@@ -171,7 +171,7 @@ fn reads_what_others_write(rt: HostRuntime) -> Result<(), Fail> {
 }
 
 #[test]
-fn refuses_what_is_no_payload(rt: HostRuntime) -> Result<(), Fail> {
+fn refuses_what_is_no_object(rt: HostRuntime) -> Result<(), Fail> {
     let alloc = rt.alloc();
     for (bytes, want) in [
         (b"".as_slice(), "NotJson"),
@@ -183,14 +183,18 @@ fn refuses_what_is_no_payload(rt: HostRuntime) -> Result<(), Fail> {
         (b"{} {}", "NotJson"),
         (b"[]", "NotAnObject"),
         (b"null", "NotAnObject"),
-        (b"{\"pending\":1,\"completed\":{}}", "Wrong completed"),
-        (b"{\"completed\":[{}]}", "Wrong completed"),
-        (b"{\"completed\":[{\"id\":0}]}", "Wrong completed"),
-        (
-            b"{\"completed\":[{\"id\":\"0\",\"errors\":[1]}]}",
-            "Wrong completed",
-        ),
-        (b"{\"data\":[],\"errors\":1}", "Wrong data"),
+    ] {
+        let told = read_and_written(alloc, bytes)?;
+        assert_eq!(rt; told.as_slice(), want.as_bytes());
+    }
+    Ok(())
+}
+
+#[test]
+fn refuses_wrong_members_of_the_first_payload(rt: HostRuntime) -> Result<(), Fail> {
+    let alloc = rt.alloc();
+    for (bytes, want) in [
+        (b"{\"data\":[],\"errors\":1}".as_slice(), "Wrong data"),
         (b"{\"data\":{\"a\":-0}}", "Wrong data"),
         (b"{\"data\":{\"a\":[1.0]}}", "Wrong data"),
         (b"{\"data\":{\"a\":9223372036854775808}}", "Wrong data"),
@@ -220,8 +224,48 @@ fn refuses_what_is_no_payload(rt: HostRuntime) -> Result<(), Fail> {
             b"{\"errors\":[{\"message\":\"m\",\"locations\":[{\"line\":1.0,\"column\":1}]}]}",
             "Wrong errors",
         ),
+    ] {
+        let told = read_and_written(alloc, bytes)?;
+        assert_eq!(rt; told.as_slice(), want.as_bytes());
+    }
+    Ok(())
+}
+
+#[test]
+fn refuses_wrong_members_of_every_payload(rt: HostRuntime) -> Result<(), Fail> {
+    let alloc = rt.alloc();
+    for (bytes, want) in [
+        (
+            b"{\"pending\":1,\"completed\":{}}".as_slice(),
+            "Wrong completed",
+        ),
+        (b"{\"completed\":[{}]}", "Wrong completed"),
+        (b"{\"completed\":[{\"id\":0}]}", "Wrong completed"),
+        (
+            b"{\"completed\":[{\"id\":\"0\",\"errors\":[1]}]}",
+            "Wrong completed",
+        ),
         (b"{\"hasNext\":0,\"incremental\":0}", "Wrong hasNext"),
-        (b"{\"incremental\":{},\"pending\":0}", "Wrong incremental"),
+        (b"{\"pending\":[{\"id\":\"0\"}]}", "Wrong pending"),
+        (
+            b"{\"pending\":[{\"id\":\"0\",\"path\":[],\"label\":5}]}",
+            "Wrong pending",
+        ),
+    ] {
+        let told = read_and_written(alloc, bytes)?;
+        assert_eq!(rt; told.as_slice(), want.as_bytes());
+    }
+    Ok(())
+}
+
+#[test]
+fn refuses_wrong_entries(rt: HostRuntime) -> Result<(), Fail> {
+    let alloc = rt.alloc();
+    for (bytes, want) in [
+        (
+            b"{\"incremental\":{},\"pending\":0}".as_slice(),
+            "Wrong incremental",
+        ),
         (b"{\"incremental\":[{\"id\":\"0\"}]}", "Wrong incremental"),
         (
             b"{\"incremental\":[{\"id\":\"0\",\"data\":null}]}",
@@ -238,11 +282,6 @@ fn refuses_what_is_no_payload(rt: HostRuntime) -> Result<(), Fail> {
         (
             b"{\"incremental\":[{\"id\":\"0\",\"data\":{},\"subPath\":[null]}]}",
             "Wrong incremental",
-        ),
-        (b"{\"pending\":[{\"id\":\"0\"}]}", "Wrong pending"),
-        (
-            b"{\"pending\":[{\"id\":\"0\",\"path\":[],\"label\":5}]}",
-            "Wrong pending",
         ),
     ] {
         let told = read_and_written(alloc, bytes)?;

@@ -3,6 +3,7 @@
 use gql_tree::{Fields, Key, Listed, NoMemory, Path, Text, Value};
 use std::alloc::Global;
 
+/// A text of these letters.
 pub fn text(alloc: Global, letters: &str) -> Result<Text, NoMemory> {
     Text::copy_of(alloc, letters)
 }

@@ -17,6 +17,7 @@ number_of DoorFault = 8
 number_of InputsRefused = 9
 number_of TooLong = 10
 
+-- a status that stands in a list
 abbrev pub IsOneOf : List Status → Status → Type 0
 IsOneOf these status = IsTrue (list_any (λ this. number_of this == number_of status) these)
 

@@ -118,62 +118,58 @@ const DEEP: &str =
 const NULL: &str = "{\"data\":null,\"hasNext\":true,\"pending\":[{\"id\":\"0\",\"path\":[]}]}";
 
 #[test]
-fn bodies_of_other_payloads(rt: HostRuntime) -> Result<(), Fail> {
+fn first_payloads(rt: HostRuntime) -> Result<(), Fail> {
     let alloc = rt.alloc();
-    // As many of three texts, a reason and a report.
-    for (first, second, third, count, reason, report) in [
-        (
-            ANNOUNCED,
-            DELIVERED,
-            DELIVERED,
-            3,
-            "payload 2: AfterEnd",
-            WHOLE,
-        ),
-        (
-            ANNOUNCED,
-            "{\"completed\":[{\"id\":\"0\"}],\"hasNext\":true}",
-            DELIVERED,
-            3,
-            "payload 2: UnknownId",
-            FIRST,
-        ),
-        (
-            "{\"hasNext\":true}",
-            "",
-            "",
-            1,
-            "payload 0: BadInitial",
-            "none",
-        ),
+    for (text, reason, report) in [
+        ("{\"hasNext\":true}", "payload 0: BadInitial", "none"),
         (
             "{\"data\":{},\"hasNext\":true,\"pending\":[{\"id\":\"0\",\"path\":[]},{\"id\":\"0\",\"path\":[]}]}",
-            "",
-            "",
-            1,
             "payload 0: IdTwice",
             "none",
         ),
-        (
-            NULL,
-            "{\"hasNext\":true,\"incremental\":[{\"data\":{},\"id\":\"0\"}]}",
-            "",
-            2,
-            "payload 1: NoSuchPlace",
-            "{\"data\":null,\"errors\":[],\"failures\":[]}",
-        ),
-        (DEEP, "", "", 1, "payload 0: NotJson", "none"),
+        (DEEP, "payload 0: NotJson", "none"),
         (
             "{\"errors\":[{\"message\":\"x\"}]}",
-            "",
-            "",
-            1,
             "taken",
             "{\"data\":null,\"errors\":[{\"message\":\"x\"}],\"failures\":[]}",
         ),
     ] {
-        let texts = [first, second, third];
-        let bytes = body(alloc, &texts[..count])?;
+        let bytes = body(alloc, &[text])?;
+        let want = expected(alloc, reason, report)?;
+        assert_eq!(rt;
+            told(alloc, bytes.as_slice(), 1_048_576)?.as_str(),
+            want.as_str()
+        );
+    }
+    Ok(())
+}
+
+#[test]
+fn an_entry_below_null(rt: HostRuntime) -> Result<(), Fail> {
+    let alloc = rt.alloc();
+    let entry = "{\"hasNext\":true,\"incremental\":[{\"data\":{},\"id\":\"0\"}]}";
+    let bytes = body(alloc, &[NULL, entry])?;
+    let want = expected(
+        alloc,
+        "payload 1: NoSuchPlace",
+        "{\"data\":null,\"errors\":[],\"failures\":[]}",
+    )?;
+    assert_eq!(rt;
+        told(alloc, bytes.as_slice(), 1_048_576)?.as_str(),
+        want.as_str()
+    );
+    Ok(())
+}
+
+#[test]
+fn third_payloads(rt: HostRuntime) -> Result<(), Fail> {
+    let alloc = rt.alloc();
+    let ended = "{\"completed\":[{\"id\":\"0\"}],\"hasNext\":true}";
+    for (second, reason, report) in [
+        (DELIVERED, "payload 2: AfterEnd", WHOLE),
+        (ended, "payload 2: UnknownId", FIRST),
+    ] {
+        let bytes = body(alloc, &[ANNOUNCED, second, DELIVERED])?;
         let want = expected(alloc, reason, report)?;
         assert_eq!(rt;
             told(alloc, bytes.as_slice(), 1_048_576)?.as_str(),
