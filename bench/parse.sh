@@ -1,16 +1,17 @@
 #!/usr/bin/env bash
 # Times the parser on documents of 1 KB to 1 MB of four kinds: flat (one field behind another), deep (100 braces, again and
-# again), fragments (many definitions) and strings (long arguments). The program `local` reads each document, and refuses it
-# as NotBuilt; what it takes for an empty document is subtracted. Beside it stand graphql-core's parse and GraphQL.js's of the
-# same text, warm (the best of several in one process), each skipped where it isn't installed. The gate doesn't run it.
+# again), fragments (many definitions) and strings (long arguments). The program gql_bench parses each document again and
+# again in one process, so its start and the reading of the file are subtracted. Beside it stand graphql-core's parse and
+# GraphQL.js's of the same text, warm too: the best of several in one process, and of GraphQL.js the better of node's own
+# settings and a large young generation. Each is skipped where it isn't installed. Memory is what the process holds at
+# most while it parses the document once, less what it holds for a document of one field. The gate doesn't run it.
 set -euo pipefail
 top=$(cd "$(dirname "$0")/.." && pwd)
-program=$top/crates/gql_run/out/gql_run
-data=$top/crates/gql_run/data
-for tool in awk date python3; do
+program=$top/crates/gql_bench/out/gql_bench
+for tool in awk python3; do
     command -v "$tool" > /dev/null || { echo "skipped: no $tool"; exit 0; }
 done
-[ -x "$program" ] || { echo "skipped: no program, make build leaves it"; exit 0; }
+[ -x "$program" ] || { echo "skipped: no program, make test leaves it"; exit 0; }
 work=$(mktemp -d)
 trap 'rm -rf "$work"' EXIT
 
@@ -28,16 +29,29 @@ document() {
     }'
 }
 
-# seconds that the program takes for a document, the best of five
-seconds() {
-    local best=0 start took
-    for _ in 1 2 3 4 5; do
-        start=$(date +%s%N)
-        "$program" local "$data/schema.graphql" "$data/tables.json" "$1" - 0 7 > "$work/answer" || true
-        took=$(($(date +%s%N) - start))
-        if [ "$best" = 0 ] || [ "$took" -lt "$best" ]; then best=$took; fi
-    done
-    echo "$best"
+# nanoseconds that the program takes for a document, the best of seven, and the bytes that it holds beyond those for $2
+warm() {
+    python3 - "$program" "$1" "$2" <<'PY'
+import os, subprocess, sys, time
+program, document, least = sys.argv[1:]
+
+def run(name, times):
+    start = time.perf_counter()
+    subprocess.run([program, name, str(times)], check=True, stdout=subprocess.DEVNULL)
+    return time.perf_counter() - start
+
+def held(name):
+    child = subprocess.Popen([program, name, '1'], stdout=subprocess.DEVNULL)
+    _, status, usage = os.wait4(child.pid, 0)
+    assert status == 0
+    return usage.ru_maxrss * 1024
+
+times = 1
+while run(document, times + 1) < 0.3:
+    times *= 2
+took = min(run(document, times + 1) for _ in range(7)) - min(run(document, 1) for _ in range(7))
+print('%.0f %d' % (took / times * 1e9, held(document) - held(least)))
+PY
 }
 
 core() {
@@ -55,9 +69,10 @@ print('%.2f' % (len(text.encode()) / best / 1e6))
 PY
 }
 
+# GraphQL.js under the settings of node that follow the document's name
 javascript() {
-    command -v node > /dev/null || { echo -; return; }
-    NODE_PATH=/usr/share/nodejs node - "$1" 2> /dev/null <<'JS' || echo -
+    command -v node > /dev/null || { echo 0; return; }
+    NODE_PATH=/usr/share/nodejs node "${@:2}" - "$1" 2> /dev/null <<'JS' || echo 0
 const { parse } = require('graphql');
 const text = require('fs').readFileSync(process.argv[2], 'utf8');
 let best = Infinity;
@@ -71,16 +86,15 @@ console.log((Buffer.byteLength(text) / best * 1e3).toFixed(2));
 JS
 }
 
-printf '{a}' > "$work/empty"
-start=$(seconds "$work/empty")
-echo "kind bytes milliseconds MB/s graphql-core GraphQL.js"
+printf '{a}' > "$work/least"
+echo "kind bytes microseconds MB/s memory/byte graphql-core GraphQL.js times"
 for kind in flat deep fragments strings; do
     for size in 1000 10000 100000 1000000; do
         document "$kind" "$size" > "$work/document"
         bytes=$(wc -c < "$work/document")
-        took=$(seconds "$work/document")
-        grep -q NotBuilt "$work/answer" || { echo "another answer than expected"; cat "$work/answer"; exit 1; }
-        awk -v k="$kind" -v b="$bytes" -v t="$took" -v s="$start" -v c="$(core "$work/document")" -v j="$(javascript "$work/document")" \
-            'BEGIN { d = t - s; printf "%s %d %.2f %s %s %s\n", k, b, d / 1e6, (d > 200000 ? sprintf("%.1f", b / d * 1e3) : "-"), c, j }'
+        awk -v k="$kind" -v b="$bytes" -v w="$(warm "$work/document" "$work/least")" -v c="$(core "$work/document")" \
+            -v p="$(javascript "$work/document")" -v y="$(javascript "$work/document" --single-threaded --max-semi-space-size=256)" \
+            'BEGIN { split(w, a, " "); j = (p + 0 > y + 0 ? p : y); r = b / a[1] * 1e3;
+                printf "%s %d %.1f %.1f %.1f %s %s %s\n", k, b, a[1] / 1e3, r, a[2] / b, c, (j + 0 > 0 ? j : "-"), (j + 0 > 0 ? sprintf("%.1f", r / j) : "-") }'
     done
 done

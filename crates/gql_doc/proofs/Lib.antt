@@ -10,6 +10,7 @@ pub mod Pieces
 pub mod QuotedFront
 pub mod Spaced
 pub mod StringTexts
+pub mod Unescaped
 pub mod Meant
 pub mod Written
 pub mod Lexed

@@ -85,7 +85,7 @@ unicode_pair a b c d e f g h x y high low rest are high_is is_high these low_is 
 abbrev Reads : List ℕ → ℕ → Type 0
 Reads text c = (rest : List ℕ) → quoted_value 0 (text ++ rest) ≡ c ∷ quoted_value 0 rest
 
-other_reads : (c : ℕ) → c ≢ 92 → Reads (c ∷ []) c
+pub other_reads : (c : ℕ) → c ≢ 92 → Reads (c ∷ []) c
 other_reads c ne rest = ap (λ (p : Code). p.0 ∷ quoted_value p.1 rest) (cond-false (c == 92) (escape rest) (c, 0) (ne_eqb c 92 ne))
 
 by_unicode : List ℕ → Code → List ℕ
@@ -271,12 +271,12 @@ quoted_meant (suc bound) (c ∷ cs) pieces within are same = by_size c cs pieces
 -- ---- the marks of strings
 
 -- what stands between two marks
-between_marks : (marks xs : List ℕ) → between (length marks) (marks ++ (xs ++ marks)) ≡ xs
+pub between_marks : (marks xs : List ℕ) → between (length marks) (marks ++ (xs ++ marks)) ≡ xs
 between_marks marks xs =
     ap (take (length (marks ++ (xs ++ marks)) - 2 * length marks)) (drop_at marks (xs ++ marks) (length marks) refl)
     ∙ take_at xs marks (length (marks ++ (xs ++ marks)) - 2 * length marks) (omega (arith, length-append marks (xs ++ marks), length-append xs marks))
 
-chars_between : (marks content : List ℕ) → AreAscii marks → IsUtf8 content → chars (marks ++ (content ++ marks)) ≡ marks ++ (chars content ++ marks)
+pub chars_between : (marks content : List ℕ) → AreAscii marks → IsUtf8 content → chars (marks ++ (content ++ marks)) ≡ marks ++ (chars content ++ marks)
 chars_between marks content ascii utf8 =
     let marks_utf8 : IsUtf8 marks = (marks, (scalars_ascii marks ascii, encodes_ascii marks ascii)) in
     let same : chars marks ≡ marks = ap chars (sym (encodes_ascii marks ascii)) ∙ chars-encodes marks (scalars_ascii marks ascii) in
@@ -285,11 +285,11 @@ chars_between marks content ascii utf8 =
     ∙ (λ i. same i ++ (chars content ++ same i))
 
 -- the content of a token of UTF-8 is UTF-8
-behind_marks : (marks xs : List ℕ) → AreAscii marks → IsUtf8 (marks ++ xs) → IsUtf8 xs
+pub behind_marks : (marks xs : List ℕ) → AreAscii marks → IsUtf8 (marks ++ xs) → IsUtf8 xs
 behind_marks [] xs ascii utf8 = utf8
 behind_marks (m ∷ marks) xs ascii utf8 = behind_marks marks xs ascii.1 (IsUtf8-past_char (m ∷ (marks ++ xs)) (marks ++ xs) m utf8 (ap (λ (l : List ℕ). l ++ (marks ++ xs)) (sym (encode_ascii m ascii.0))))
 
-before_mark : (content : List ℕ) (m : ℕ) (marks : List ℕ) → m < 128 → IsUtf8 (content ++ m ∷ marks) → IsUtf8 content
+pub before_mark : (content : List ℕ) (m : ℕ) (marks : List ℕ) → m < 128 → IsUtf8 (content ++ m ∷ marks) → IsUtf8 content
 before_mark content m marks small utf8 =
     let all = content ++ m ∷ marks in
     let at : get_or all (length content) 0 ≡ m = get_or_at content m marks 0 (length content) refl in

@@ -1,7 +1,8 @@
 //! What string tokens mean.
 
-ghost use Rattle.std.specs.Prelude.{◌≡◌, ◌≤◌, IfOk, string_bytes};
+ghost use Rattle.std.specs.Prelude.{◌≡◌, ◌≤◌, IfOk, IfSome, string_bytes};
 ghost use Rattle.std.specs.Str.{chars, encode_utf8_all};
+ghost use Rattle.gql_lex.specs.declared.token.TokenKind.TheVariants as kind;
 ghost use Rattle.gql_doc.specs.StringValue.{between, value, string_value};
 
 use crate::block_string::block_value;
@@ -16,9 +17,39 @@ use std::alloc::Global;
 pub fn string_value(alloc: Global, token: &Token<'_>) -> Result<Text, NoMemory>
     ensures { IfOk result (λ text. text ≡ string_value token.now.kind token.now.text.now) }
 {
+    if let Some(content) = unescaped(token) {
+        return Text::copy_of(alloc, content);
+    }
     let characters = characters(alloc, token.text)?;
     let value = value(alloc, token.kind, characters.as_slice())?;
     Ok(Text::from_string(value))
+}
+
+/// What a quoted string without an escape means: what stands between its quotes.
+fn unescaped<'a>(token: &Token<'a>) -> Option<&'a str>
+    ensures { IfSome result (λ content. content.now ≡ string_value token.now.kind token.now.text.now) }
+{
+    match token.kind {
+        TokenKind::Quoted => between_quotes(token.text),
+        _ => None,
+    }
+}
+
+/// What stands between the quotes of a text without a backslash.
+fn between_quotes(text: &str) -> Option<&str>
+    ensures { IfSome result (λ content. content.now ≡ string_value kind.Quoted text.now) }
+{
+    let bytes = text.as_bytes();
+    if bytes.len() < 2
+        || bytes[0] != b'"'
+        || bytes[bytes.len() - 1] != b'"'
+        || bytes.contains(&b'\\')
+    {
+        return None;
+    }
+    let (_, behind) = text.split_at(1);
+    let (content, _) = behind.split_at(behind.len() - 1);
+    Some(content)
 }
 
 fn characters(alloc: Global, text: &str) -> Result<Listed<char>, NoMemory>

@@ -8,6 +8,7 @@ pub mod Fronts
 pub mod Lexing
 pub mod Longest
 pub mod Places
+pub mod Plain
 pub mod QuotedTexts
 pub mod Runs
 pub mod Steps

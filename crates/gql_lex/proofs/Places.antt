@@ -1,10 +1,15 @@
 -- How a place follows from the one before it.
-use Rattle.std.proofs.Common.{◌≡◌, ℕ, ◌+◌, ◌==◌, ◌<◌, Bool, true, false, List, [], ◌∷◌, ◌++◌, refl, ap, sym, ◌∙◌, append_assoc, add_assoc, add-zero, zero-add, arith}
-use Rattle.std.specs.Prelude.{if◌then◌else◌, count_by}
+use Rattle.std.proofs.Common.{◌≡◌, ℕ, suc, length, get_or, ◌+◌, ◌==◌, ◌<◌, Bool, true, false, List, [], ◌∷◌, ◌++◌, refl, ap, sym, ◌∙◌, append_assoc, add_assoc, add-zero, zero-add, arith}
+use Rattle.std.specs.Prelude.{nat_eq, nat_lt, ◌&&◌, not, if◌then◌else◌, count_by}
+use Rattle.std.specs.List.{list_any, starts_with}
+use Rattle.std.proofs.lemmas.Bool.{or_parts, or_from, or_left, and_left, cond-true, lt-ltb}
+use Rattle.std.proofs.lemmas.List.{append-nil}
 use Rattle.std.proofs.lemmas.List.Sums.{sum_by-append}
 use Rattle.std.proofs.lemmas.Bool.Decides.{nat_tests}
 use Rattle.gql_tree.specs.declared.Spot.{Spot}
+use Rattle.gql_lex.specs.Classes.{is_line_end}
 use Rattle.gql_lex.specs.Places.{ends_line, lines_ended, last_line, begins_character, spot_at}
+use Rattle.gql_lex.specs.inner.Lines.{on_line}
 
 -- one more byte, a last one
 pub lines_ended-push : (passed : List ℕ) (byte : ℕ) (rest : List ℕ) → lines_ended (passed ++ byte ∷ []) rest ≡ lines_ended passed (byte ∷ rest) + (if ends_line byte rest then 1 else 0)
@@ -98,3 +103,41 @@ pub spot_at-same : (spot : Spot) (passed : List ℕ) (byte : ℕ) (rest : List �
 spot_at-same spot passed byte rest e begins is =
     ap (λ n. place n spot.column) (same_line (ends_line byte rest) spot.line _ _ (ap (λ (s : Spot). s.line) is) (lines_ended-push passed byte rest) e)
     ∙ ap (place (1 + lines_ended (passed ++ byte ∷ []) rest)) (no_column (begins_character byte) spot.column _ _ (ap (λ (s : Spot). s.column) is) (columns passed byte rest e) begins)
+
+-- ---- the place behind bytes in which no line ends
+
+no_end : (byte : ℕ) (rest : List ℕ) → is_line_end byte ≡ false → ends_line byte rest ≡ false
+no_end byte rest none =
+    let parts = or_parts (byte == 10) (byte == 13) none in
+    or_from (byte == 10) (byte == 13 && not (starts_with nat_eq rest (10 ∷ []))) parts.0 (and_left (byte == 13) (not (starts_with nat_eq rest (10 ∷ []))) parts.1)
+
+by_character : (begins : Bool) (spot : Spot) (passed : List ℕ) (byte : ℕ) (rest : List ℕ) → begins_character byte ≡ begins → ends_line byte rest ≡ false → spot ≡ spot_at passed (byte ∷ rest)
+    → place spot.line (spot.column + (if begins then 1 else 0)) ≡ spot_at (passed ++ byte ∷ []) rest
+by_character true spot passed byte rest begins e is = spot_at-next spot passed byte rest e begins is
+by_character false spot passed byte rest begins e is = ap (place spot.line) (add-zero spot.column) ∙ spot_at-same spot passed byte rest e begins is
+
+-- the first of the characters, and the others
+counted-first : (byte : ℕ) (here : List ℕ) → count_by begins_character (byte ∷ here) ≡ (if begins_character byte then 1 else 0) + count_by begins_character here
+counted-first byte here =
+    sum_by-append (λ b. if begins_character b then 1 else 0) (byte ∷ []) here
+    ∙ ap (λ n. n + count_by begins_character here) (one_counted (if begins_character byte then 1 else 0))
+
+pub spot_at-line : (spot : Spot) (passed here rest : List ℕ) → list_any is_line_end here ≡ false → spot ≡ spot_at passed (here ++ rest) → on_line spot here ≡ spot_at (passed ++ here) rest
+spot_at-line spot passed [] rest none is = ap (place spot.line) (add-zero spot.column) ∙ is ∙ ap (λ p. spot_at p rest) (sym (append-nil passed))
+spot_at-line spot passed (byte ∷ here) rest none is =
+    let one : ℕ = if begins_character byte then 1 else 0 in
+    let parts = or_parts (is_line_end byte) (list_any is_line_end here) none in
+    let behind : place spot.line (spot.column + one) ≡ spot_at (passed ++ byte ∷ []) (here ++ rest) = by_character (begins_character byte) spot passed byte (here ++ rest) refl (no_end byte (here ++ rest) parts.0) is in
+    ap (λ n. place spot.line (spot.column + n)) (counted-first byte here)
+    ∙ ap (place spot.line) (sym (add_assoc spot.column one (count_by begins_character here)))
+    ∙ spot_at-line (place spot.line (spot.column + one)) (passed ++ byte ∷ []) here rest parts.1 behind
+    ∙ ap (λ p. spot_at p rest) (append_assoc passed (byte ∷ []) here)
+
+-- each byte of ASCII begins a character
+pub count-ascii : (text : List ℕ) → ((i : ℕ) → get_or text i 0 < 128) → length text ≡ count_by begins_character text
+count-ascii [] small = refl
+count-ascii (byte ∷ rest) small =
+    let one : ◌≡◌ {A = ℕ} (if begins_character byte then 1 else 0) 1 = cond-true (begins_character byte) 1 0 (or_left (nat_lt byte 128) _ (lt-ltb byte 128 (small 0))) in
+    let others : length rest ≡ count_by begins_character rest = count-ascii rest (λ i. small (suc i)) in
+    let first = counted-first byte rest in
+    omega (arith, one, others, first)

@@ -1,2 +1,3 @@
 -- What private clauses speak of, and no public one.
 pub mod Found
+pub mod Lines

@@ -90,7 +90,7 @@ impl<'a> Lexer<'a> {
         let bytes = self.rest.as_bytes();
         let start = self.start + blanks;
         let spot = behind_all(self.spot, bytes, blanks);
-        let behind = behind_all(self.spot, bytes, blanks + len);
+        let behind = behind_all(spot, &bytes[blanks..], len);
         let (text, rest) = cut(self.rest, blanks, len);
         *self = Lexer {
             rest,

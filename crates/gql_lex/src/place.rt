@@ -1,9 +1,13 @@
 //! Lines and columns.
 
-ghost use Rattle.std.specs.Prelude.{◌≡◌, ℕ, List, ◌∷◌, [], ◌++◌, ◌+◌, ◌<◌, ◌≤◌, ◌^◌, length, take, drop};
+ghost use Rattle.std.specs.Prelude.{◌≡◌, ℕ, List, ◌∷◌, [], ◌++◌, ◌+◌, ◌<◌, ◌≤◌, ◌^◌, length, take, drop, count_by};
+ghost use Rattle.std.specs.List.{list_any};
+ghost use Rattle.gql_lex.specs.Classes.{is_line_end};
 ghost use Rattle.gql_lex.specs.Places.{ends_line, begins_character, spot_at};
+ghost use Rattle.gql_lex.specs.inner.Lines.{on_line};
 
 use gql_tree::Spot;
+use memchr::memchr2;
 
 /// Whether a line ends with `byte`, which `rest` follows.
 fn ends_line(byte: u8, rest: &[u8]) -> bool
@@ -44,6 +48,54 @@ fn behind(spot: Spot, byte: u8, rest: &[u8]) -> Spot
 
 /// The place behind the first `count` bytes of a text whose place is `spot`.
 pub(crate) fn behind_all(spot: Spot, text: &[u8], count: usize) -> Spot
+    requires count { count ≤ length text.now }
+    requires line { spot.line + count < 2 ^ 32 }
+    requires column { spot.column + count < 2 ^ 32 }
+    ensures place { (passed : List ℕ) → spot ≡ spot_at passed text.now → result ≡ spot_at (passed ++ take count text.now) (drop count text.now) }
+    ensures line { result.line ≤ spot.line + count }
+    ensures column { result.column ≤ spot.column + count }
+{
+    let passed = &text[..count];
+    if has_line_end(passed) {
+        behind_each(spot, text, count)
+    } else {
+        behind_on_line(spot, passed)
+    }
+}
+
+/// Whether a text has a byte that ends a line, or begins the end of one.
+fn has_line_end(text: &[u8]) -> bool
+    ensures { result ≡ list_any is_line_end text.now }
+{
+    memchr2(b'\n', b'\r', text).is_some()
+}
+
+/// The place behind `passed` on the same line.
+fn behind_on_line(spot: Spot, passed: &[u8]) -> Spot
+    requires column { spot.column + length passed.now < 2 ^ 32 }
+    ensures place { result ≡ on_line spot passed.now }
+    ensures column { result.column ≤ spot.column + length passed.now }
+{
+    Spot {
+        line: spot.line,
+        column: spot.column + characters(passed) as u32,
+    }
+}
+
+/// How many characters begin in a text.
+fn characters(text: &[u8]) -> usize
+    ensures value { result ≡ count_by begins_character text.now }
+    ensures within { result ≤ length text.now }
+{
+    if text.is_ascii() {
+        text.len()
+    } else {
+        text.iter().filter(|byte| begins_character(**byte)).count()
+    }
+}
+
+/// The same as `behind_all`, a byte at a time.
+fn behind_each(spot: Spot, text: &[u8], count: usize) -> Spot
     requires count { count ≤ length text.now }
     requires line { spot.line + count < 2 ^ 32 }
     requires column { spot.column + count < 2 ^ 32 }

@@ -1,12 +1,15 @@
 //! Quoted strings and block strings.
 
 ghost use Rattle.std.specs.Prelude.{◌≡◌, ℕ, ◌≤◌, ◌+◌, ◌<◌, ◌^◌, ◌∷◌, length};
+ghost use Rattle.std.specs.List.{list_all};
 ghost use Rattle.gql_lex.specs.inner.Found.{Lies, Encloses};
+ghost use Rattle.gql_lex.specs.inner.Lines.{is_no_control};
 ghost use Rattle.gql_lex.specs.Strings.{fault_of, closed_quoted, quoted, allowed_len, closed_block, block, string};
 
 use crate::run::{Pieces, is_forbidden, run_len};
 use crate::scan::{Fault, Found};
 use crate::token::TokenKind;
+use memchr::memchr2;
 
 /// The string whose first quote stands before `text`, or what is wrong with it.
 pub(crate) fn string(text: &[u8]) -> Found
@@ -27,12 +30,33 @@ fn quoted(text: &[u8]) -> Found
     ensures value { result ≡ quoted text.now }
     ensures lies { Lies (34 ∷ text.now) result }
 {
+    match memchr2(b'"', b'\\', text) {
+        Some(len) if text[len] == b'"' && has_no_controls(&text[..len]) => {
+            Found::Token(TokenKind::Quoted, len + 2)
+        }
+        _ => quoted_by_items(text),
+    }
+}
+
+/// The same, an item at a time.
+fn quoted_by_items(text: &[u8]) -> Found
+    requires { length text.now < 2 ^ 32 }
+    ensures value { result ≡ quoted text.now }
+    ensures lies { Lies (34 ∷ text.now) result }
+{
     let (content, behind) = text.split_at(run_len(Pieces::QuotedItems, text));
     if behind.starts_with(b"\"") {
         closed_quoted(content)
     } else {
         Found::Wrong(Fault::Open, 0)
     }
+}
+
+/// Whether no byte is a control character.
+fn has_no_controls(text: &[u8]) -> bool
+    ensures { result ≡ list_all is_no_control text.now }
+{
+    text.iter().all(|byte| *byte >= b' ')
 }
 
 /// What stands between two quotes.

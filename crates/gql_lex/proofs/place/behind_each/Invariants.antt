@@ -1,6 +1,6 @@
 use Rattle.std.proofs.Common.{◌≡◌, ℕ, ◌+◌, ◌≤◌, List, ◌++◌, take, drop}
 use Rattle.gql_lex.specs.Places.{spot_at}
-use Rattle.gql_lex.proofs.place.behind_all.Given as goal
+use Rattle.gql_lex.proofs.place.behind_each.Given as goal
 
 abbrev pub invariant-loop-index : goal.invariant-loop-index
 invariant-loop-index l = record {

@@ -1,12 +1,8 @@
-use Rattle.std.proofs.Common.{◌≡◌, true, [], ◌∷◌, sym, ◌∙◌, subst}
-use Rattle.std.specs.Prelude.{nat_eq}
-use Rattle.std.specs.List.{starts_with}
-use Rattle.gql_lex.specs.inner.Found.{Encloses}
-use Rattle.gql_lex.proofs.Found.{Lies-quoted}
+use Rattle.std.proofs.Common.{sym, ◌∙◌, arith}
+use Rattle.gql_lex.proofs.Plain.{plain_quoted}
 use Rattle.gql_lex.proofs.string.quoted.Goals as goal
 
-pub returns-then-starts_with-clause-lies : goal.returns-then-starts_with-clause-lies
-returns-then-starts_with-clause-lies c = Lies-quoted c.args.text.now c.run_len.result c.closed_quoted.result
-    (subst (λ count. Encloses count 2 c.closed_quoted.result) c.split_at.ensures.front_len c.closed_quoted.ensures.encloses)
-    c.run_len.ensures.within
-    (subst (λ behind. starts_with nat_eq behind (34 ∷ []) ≡ true) c.split_at.ensures.back (sym c.starts_with.ensures.value ∙ c.if-starts_with.true))
+pub returns-in-Some-clause-value : goal.returns-in-Some-clause-value
+returns-in-Some-clause-value c = plain_quoted c.args.text.now c.in-Some.len c.in-Some.ensures.0.high c.if-text-len-eq34.true
+    (λ k lt. c.in-Some.ensures.0.before k (omega arith) lt)
+    (sym c.has_no_controls.ensures ∙ c.if-has_no_controls.true)
