@@ -1,10 +1,11 @@
 #!/usr/bin/env bash
 # Times the parser on documents of 1 KB to 1 MB of four kinds: flat (one field behind another), deep (100 braces, again and
 # again), fragments (many definitions) and strings (long arguments). The program gql_bench parses each document again and
-# again in one process, so its start and the reading of the file are subtracted. Beside it stand graphql-core's parse and
-# GraphQL.js's of the same text, warm too: the best of several in one process, and of GraphQL.js the better of node's own
-# settings and a large young generation. Each is skipped where it isn't installed. Memory is what the process holds at
-# most while it parses the document once, less what it holds for a document of one field. The gate doesn't run it.
+# again in one process, so its start and the reading of the file are subtracted; cold is the first time in a process, less
+# what a document of one field takes. Beside it stand graphql-core's parse and GraphQL.js's of the same text, warm: the best
+# of several in one process, and of GraphQL.js the better of node's own settings and a large young generation. Each is
+# skipped where it isn't installed. Memory is what the process holds at most while it parses the document once, less what
+# it holds for a document of one field. The gate doesn't run it.
 set -euo pipefail
 top=$(cd "$(dirname "$0")/.." && pwd)
 program=$top/crates/gql_bench/out/gql_bench
@@ -29,8 +30,9 @@ document() {
     }'
 }
 
-# nanoseconds that the program takes for a document, the best of seven, and the bytes that it holds beyond those for $2
-warm() {
+# nanoseconds that the program takes for a document, warm and cold, the best of seven each, and the bytes that it holds
+# beyond those for $2
+measure() {
     python3 - "$program" "$1" "$2" <<'PY'
 import os, subprocess, sys, time
 program, document, least = sys.argv[1:]
@@ -49,8 +51,10 @@ def held(name):
 times = 1
 while run(document, times + 1) < 0.3:
     times *= 2
-took = min(run(document, times + 1) for _ in range(7)) - min(run(document, 1) for _ in range(7))
-print('%.0f %d' % (took / times * 1e9, held(document) - held(least)))
+first = min(run(document, 1) for _ in range(7))
+warm = (min(run(document, times + 1) for _ in range(7)) - first) / times
+cold = first - min(run(least, 1) for _ in range(7))
+print('%.0f %.0f %d' % (warm * 1e9, cold * 1e9, held(document) - held(least)))
 PY
 }
 
@@ -87,14 +91,15 @@ JS
 }
 
 printf '{a}' > "$work/least"
-echo "kind bytes microseconds MB/s memory/byte graphql-core GraphQL.js times"
+echo "kind bytes microseconds MB/s cold-MB/s memory/byte graphql-core GraphQL.js times"
 for kind in flat deep fragments strings; do
     for size in 1000 10000 100000 1000000; do
         document "$kind" "$size" > "$work/document"
         bytes=$(wc -c < "$work/document")
-        awk -v k="$kind" -v b="$bytes" -v w="$(warm "$work/document" "$work/least")" -v c="$(core "$work/document")" \
+        awk -v k="$kind" -v b="$bytes" -v m="$(measure "$work/document" "$work/least")" -v c="$(core "$work/document")" \
             -v p="$(javascript "$work/document")" -v y="$(javascript "$work/document" --single-threaded --max-semi-space-size=256)" \
-            'BEGIN { split(w, a, " "); j = (p + 0 > y + 0 ? p : y); r = b / a[1] * 1e3;
-                printf "%s %d %.1f %.1f %.1f %s %s %s\n", k, b, a[1] / 1e3, r, a[2] / b, c, (j + 0 > 0 ? j : "-"), (j + 0 > 0 ? sprintf("%.1f", r / j) : "-") }'
+            'BEGIN { split(m, a, " "); j = (p + 0 > y + 0 ? p : y); r = b / a[1] * 1e3;
+                printf "%s %d %.1f %.1f %s %s %s %s %s\n", k, b, a[1] / 1e3, r, (a[2] > 200000 ? sprintf("%.1f", b / a[2] * 1e3) : "-"),
+                    (a[3] > 0 ? sprintf("%.1f", a[3] / b) : "-"), c, (j + 0 > 0 ? j : "-"), (j + 0 > 0 ? sprintf("%.1f", r / j) : "-") }'
     done
 done
