@@ -5,7 +5,7 @@ ghost use Rattle.gql_lex.specs.Places.{spot_at};
 
 use crate::place::behind_all;
 use crate::refusal::LexRefusal;
-use crate::run::{Pieces, run_len};
+use crate::run::blanks_len;
 use crate::scan::{Found, front, refusal};
 use crate::token::{Token, TokenKind};
 use gql_tree::Spot;
@@ -52,7 +52,7 @@ impl<'a> Lexer<'a> {
         ensures refused { OnErr result (self.new ≡ self.old) }
     {
         let bytes = self.rest.as_bytes();
-        let blanks = run_len(Pieces::Blanks, bytes);
+        let blanks = blanks_len(bytes);
         match front(&bytes[blanks..]) {
             None => Ok(None),
             Some(Found::Token(kind, len)) => Ok(Some(self.give(blanks, kind, len))),

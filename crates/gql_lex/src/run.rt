@@ -3,12 +3,13 @@
 ghost use Rattle.std.specs.Prelude.{◌≡◌, ℕ, ◌<◌, ◌≤◌, ◌+◌, length, IfSome, true};
 ghost use Rattle.std.specs.List.{prefix_len};
 ghost use Rattle.gql_lex.specs.Classes.{is_line_end, is_forbidden, is_blank, is_commentary};
+ghost use Rattle.gql_lex.specs.declared.run.Pieces.TheVariants.{Blanks};
 ghost use Rattle.gql_lex.specs.Runs.{blank, goes_on_in_line, quoted_item, is_d, is_8_to_b, is_c_to_f, unit_by, unit_of, begins_with_low, unicode_escape, is_escape, escape, sound_item, block_item, piece, run_len};
 
 /// What runs of pieces are of.
 #[derive(Clone, Copy)]
 pub(crate) enum Pieces {
-    /// What stands between tokens.
+    /// What stands between tokens. `blanks_len` counts them.
     Blanks,
     /// What stands between quotes, be it right or wrong.
     QuotedItems,
@@ -53,6 +54,28 @@ fn piece(pieces: Pieces, text: &[u8]) -> Option<usize>
 }
 
 // ---- blanks
+
+/// How many bytes at the front of a text are blanks, one after another: what `run_len` counts, with
+/// all blanks of one byte that follow each other passed in one go.
+pub(crate) fn blanks_len(text: &[u8]) -> usize
+    ensures value { result ≡ run_len Blanks 0 text.now }
+    ensures within { result ≤ length text.now }
+{
+    let mut len = single_blanks(text);
+    while let Some(more) = blank(&text[len..]) {
+        len += more + 1;
+        len += single_blanks(&text[len..]);
+    }
+    len
+}
+
+/// How many bytes at the front are blanks of one byte.
+fn single_blanks(text: &[u8]) -> usize
+    ensures value { result ≡ prefix_len is_blank text.now }
+    ensures within { result ≤ length text.now }
+{
+    text.iter().take_while(|byte| is_blank(**byte)).count()
+}
 
 pub(crate) fn is_line_end(byte: u8) -> bool
     ensures { result ≡ is_line_end byte }

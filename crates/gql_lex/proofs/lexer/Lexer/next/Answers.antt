@@ -9,10 +9,10 @@ use Rattle.gql_lex.proofs.lexer.Lexer.next.Goals as goal
 pub returns-in-Some-Wrong-clause-answer : goal.returns-in-Some-Wrong-clause-answer
 returns-in-Some-Wrong-clause-answer c = λ passed stands.
     let bytes = c.as_bytes-bytes.ensures.value in
-    let count = c.run_len-blanks.result in
+    let count = c.blanks_len-blanks.result in
     let inside = c.in-Some-Wrong.inside in
     next_of-wrong passed c.args.self.now.rest.now count inside c.in-Some-Wrong.fault c.behind_all-spot.result c.refusal.result
-    (c.run_len-blanks.ensures.value ∙ ap blanks bytes)
+    (c.blanks_len-blanks.ensures.value ∙ ap blanks bytes)
     (ap Some (sym c.in-Some-Wrong.field-0-is) ∙ c.in-Some-Wrong.ensures.value ∙ ap front (take_rest c.as_bytes-bytes.result.now count) ∙ ap (λ t. front (drop count t)) bytes)
     (c.behind_all-spot.ensures.place passed (stands.spot ∙ ap (spot_at passed) (sym bytes)) ∙ ap (λ t. spot_at (passed ++ take (count + inside) t) (drop (count + inside) t)) bytes)
     c.refusal.ensures
