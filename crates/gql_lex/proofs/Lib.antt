@@ -16,4 +16,5 @@ pub mod StringTexts
 pub mod Texts
 pub mod TokenPlaces
 pub mod Tokens
+pub mod Words
 pub mod Written

@@ -1,9 +1,9 @@
 //! The lexer.
 
-ghost use Rattle.std.specs.Prelude.{◌≡◌, ℕ, List, [], ◌++◌, ◌+◌, ◌<◌, ◌≤◌, ◌-◌, length, take, drop, slice_index, IfOk, IfSome, IfNone, OnErr};
+ghost use Rattle.std.specs.Prelude.{◌≡◌, ℕ, List, [], ◌++◌, ◌+◌, ◌<◌, ◌≤◌, ◌-◌, length, take, drop, slice_index, Some, IfOk, IfSome, IfNone, OnErr};
 ghost use Rattle.gql_lex.specs.Places.{spot_at};
 
-use crate::place::behind_all;
+use crate::place::{behind_all, behind_token};
 use crate::refusal::LexRefusal;
 use crate::run::blanks_len;
 use crate::scan::{Found, front, refusal};
@@ -25,6 +25,8 @@ pub struct Lexer<'a> {
 }
 
 impl<'a> Lexer<'a> {
+    ghost use Rattle.gql_lex.specs.Front.{front};
+    ghost use Rattle.gql_lex.specs.declared.scan.Found.TheVariants as found;
     ghost use Rattle.gql_lex.specs.Tokens.{Stands, left, next_of, done_with, told};
 
     /// A lexer that stands before the first byte of a text, which has fewer than 4,294,967,295 bytes.
@@ -72,6 +74,7 @@ impl<'a> Lexer<'a> {
 
     /// Gives the token of `len` bytes that stands behind `blanks` bytes, and goes behind it.
     fn give(&mut self, blanks: usize, kind: TokenKind, len: usize) -> Token<'a>
+        requires found { front (drop blanks self.old.rest.now) ≡ Some (found.Token kind len) }
         requires some { 0 < len }
         requires fits { blanks + len ≤ length self.old.rest.now }
         requires first { slice_index self.old.rest.now blanks < 128 }
@@ -90,7 +93,7 @@ impl<'a> Lexer<'a> {
         let bytes = self.rest.as_bytes();
         let start = self.start + blanks;
         let spot = behind_all(self.spot, bytes, blanks);
-        let behind = behind_all(spot, &bytes[blanks..], len);
+        let behind = behind_token(spot, kind, &bytes[blanks..], len);
         let (text, rest) = cut(self.rest, blanks, len);
         *self = Lexer {
             rest,

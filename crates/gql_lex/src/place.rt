@@ -1,11 +1,14 @@
 //! Lines and columns.
 
-ghost use Rattle.std.specs.Prelude.{◌≡◌, ℕ, List, ◌∷◌, [], ◌++◌, ◌+◌, ◌<◌, ◌≤◌, ◌^◌, length, take, drop, count_by};
+ghost use Rattle.std.specs.Prelude.{◌≡◌, ℕ, List, ◌∷◌, [], ◌++◌, ◌+◌, ◌<◌, ◌≤◌, ◌^◌, length, take, drop, count_by, Some};
 ghost use Rattle.std.specs.List.{list_any};
 ghost use Rattle.gql_lex.specs.Classes.{is_line_end};
 ghost use Rattle.gql_lex.specs.Places.{ends_line, begins_character, spot_at};
+ghost use Rattle.gql_lex.specs.Front.{front};
+ghost use Rattle.gql_lex.specs.declared.scan.Found.TheVariants.{Token};
 ghost use Rattle.gql_lex.specs.inner.Lines.{on_line};
 
+use crate::token::TokenKind;
 use gql_tree::Spot;
 use memchr::memchr2;
 
@@ -43,6 +46,26 @@ fn behind(spot: Spot, byte: u8, rest: &[u8]) -> Spot
         }
     } else {
         spot
+    }
+}
+
+/// The place behind the token of `count` bytes at the front of a text whose place is `spot`.
+pub(crate) fn behind_token(spot: Spot, kind: TokenKind, text: &[u8], count: usize) -> Spot
+    requires found { front text.now ≡ Some (Token kind count) }
+    requires count { count ≤ length text.now }
+    requires line { spot.line + count < 2 ^ 32 }
+    requires column { spot.column + count < 2 ^ 32 }
+    ensures place { (passed : List ℕ) → spot ≡ spot_at passed text.now → result ≡ spot_at (passed ++ take count text.now) (drop count text.now) }
+    ensures line { result.line ≤ spot.line + count }
+    ensures column { result.column ≤ spot.column + count }
+{
+    match kind {
+        // Such a token has only ASCII, and no line end.
+        TokenKind::Punctuator | TokenKind::Name | TokenKind::Int => Spot {
+            line: spot.line,
+            column: spot.column + count as u32,
+        },
+        TokenKind::Quoted | TokenKind::Block => behind_all(spot, text, count),
     }
 }
 

@@ -1,8 +1,14 @@
 use Rattle.std.proofs.Common.{◌≡◌, ◌++◌, ◌+◌, ◌-◌, length, take, drop, sym, ◌∙◌, ap, append_assoc}
 use Rattle.std.proofs.lemmas.List.{take_rest, drop-drop}
 use Rattle.gql_lex.specs.Places.{spot_at}
+use Rattle.gql_lex.specs.Front.{front}
 use Rattle.gql_lex.proofs.Answers.{take-split}
 use Rattle.gql_lex.proofs.lexer.Lexer.give.Goals as goal
+
+pub behind_token-behind-requires-clause-found : goal.behind_token-behind-requires-clause-found
+behind_token-behind-requires-clause-found c =
+    let blanks = c.args.blanks in
+    ap front (take_rest c.as_bytes-bytes.result.now blanks ∙ ap (drop blanks) c.as_bytes-bytes.ensures.value) ∙ c.requires.found
 
 pub returns-clause-place : goal.returns-clause-place
 returns-clause-place c = λ passed stands.
@@ -12,7 +18,7 @@ returns-clause-place c = λ passed stands.
     let bytes = c.as_bytes-bytes.ensures.value in
     let before = passed ++ take blanks text in
     let here : take (length c.as_bytes-bytes.result.now - blanks) (drop blanks c.as_bytes-bytes.result.now) ≡ drop blanks text = take_rest c.as_bytes-bytes.result.now blanks ∙ ap (drop blanks) bytes in
-    c.behind_all-behind.ensures.place before
+    c.behind_token-behind.ensures.place before
     (c.behind_all-spot.ensures.place passed (stands ∙ ap (spot_at passed) (sym bytes))
     ∙ ap (λ t. spot_at (passed ++ take blanks t) (drop blanks t)) bytes
     ∙ ap (spot_at before) (sym here))

@@ -6,6 +6,14 @@ use Rattle.gql_lex.specs.Tokens.{blanks}
 use Rattle.gql_lex.proofs.Answers.{next_of-wrong}
 use Rattle.gql_lex.proofs.lexer.Lexer.next.Goals as goal
 
+pub give-requires-clause-found : goal.give-requires-clause-found
+give-requires-clause-found c =
+    let bytes = c.as_bytes-bytes.result.now in
+    let count = c.blanks_len-blanks.result in
+    ap front (ap (drop count) (sym c.as_bytes-bytes.ensures.value) ∙ sym (take_rest bytes count))
+    ∙ sym c.in-Some-Token.ensures.value
+    ∙ ap Some c.in-Some-Token.field-0-is
+
 pub returns-in-Some-Wrong-clause-answer : goal.returns-in-Some-Wrong-clause-answer
 returns-in-Some-Wrong-clause-answer c = λ passed stands.
     let bytes = c.as_bytes-bytes.ensures.value in
