@@ -23,17 +23,21 @@ sound_run text = run_len SoundItems 0 text
 quoted_of : List ℕ → ℕ → Found
 quoted_of text n = if starts_with nat_eq (drop n text) (34 ∷ []) then closed_quoted (take n text) else Wrong fault.Open 0
 
--- a content that is right, and goes on to a quote, stands in a string
-pub front-quoted : (content tail : List ℕ) → quoted_run (content ++ 34 ∷ tail) ≡ length content → sound_run content ≡ length content → starts_with nat_eq (content ++ 34 ∷ tail) (34 ∷ 34 ∷ []) ≡ false
-    → front (34 ∷ (content ++ 34 ∷ tail)) ≡ Some (Token kind.Quoted (length content + 2))
+-- a content that is right, and goes on to a quote, is closed there
+pub quoted-closed : (content tail : List ℕ) → quoted_run (content ++ 34 ∷ tail) ≡ length content → sound_run content ≡ length content → quoted (content ++ 34 ∷ tail) ≡ Token kind.Quoted (length content + 2)
 unfolding quoted_of
-front-quoted content tail goes sound single =
+quoted-closed content tail goes sound =
     let text = content ++ 34 ∷ tail in
     let behind : drop (length content) text ≡ 34 ∷ tail = drop_at content (34 ∷ tail) (length content) refl in
     let inside : take (length content) text ≡ content = take_at content (34 ∷ tail) (length content) refl in
-    ap Some (
-    cond-false (starts_with nat_eq text (34 ∷ 34 ∷ [])) (block (drop 2 text)) (quoted text) single
-    ∙ ap (quoted_of text) goes
+    ap (quoted_of text) goes
     ∙ ap (λ xs. if starts_with nat_eq xs (34 ∷ []) then closed_quoted (take (length content) text) else Wrong fault.Open 0) behind
     ∙ ap closed_quoted inside
-    ∙ cond-true (sound_run content == length content) _ _ (eq-eqb (sound_run content) (length content) sound))
+    ∙ cond-true (sound_run content == length content) _ _ (eq-eqb (sound_run content) (length content) sound)
+
+-- behind a quote it stands in a string
+pub front-quoted : (content tail : List ℕ) → quoted_run (content ++ 34 ∷ tail) ≡ length content → sound_run content ≡ length content → starts_with nat_eq (content ++ 34 ∷ tail) (34 ∷ 34 ∷ []) ≡ false
+    → front (34 ∷ (content ++ 34 ∷ tail)) ≡ Some (Token kind.Quoted (length content + 2))
+front-quoted content tail goes sound single =
+    let text = content ++ 34 ∷ tail in
+    ap Some (cond-false (starts_with nat_eq text (34 ∷ 34 ∷ [])) (block (drop 2 text)) (quoted text) single ∙ quoted-closed content tail goes sound)

@@ -1,21 +1,21 @@
 -- Between quotes, what has no quote, no backslash and no control character is passed byte by byte.
 use Rattle.std.proofs.Common.{◌≡◌, ℕ, suc, ◌+◌, ◌<◌, ◌==◌, Bool, true, false, List, [], ◌∷◌, ◌++◌, length, take, drop, get_or, Option, Some, None, refl, ap, sym, ◌∙◌, subst, zero-add, length-take, take-append-drop, arith}
-use Rattle.std.specs.Prelude.{◌||◌, nat_eq, if◌then◌else◌}
-use Rattle.std.specs.List.{starts_with, list_all, list_any}
-use Rattle.std.proofs.lemmas.Bool.{and_parts, or_from, false_from_ne_true, cond-true, eq-eqb}
+use Rattle.std.specs.Prelude.{◌||◌}
+use Rattle.std.specs.List.{list_all, list_any}
+use Rattle.std.proofs.lemmas.Bool.{and_parts, or_from, false_from_ne_true}
 use Rattle.std.proofs.lemmas.Bool.Decides.{nat_tests}
-use Rattle.std.proofs.lemmas.List.{drop_at, take_at, drop_more, get_or-take}
+use Rattle.std.proofs.lemmas.List.{drop_more, get_or-take}
 use Rattle.std.specs.Option.{is_some}
 use Rattle.std.proofs.lemmas.List.Folds.{list_any_at}
 use Rattle.memchr.specs.Find.{IsFirstByte, is_byte2}
 use Rattle.gql_lex.specs.Classes.{is_line_end}
 use Rattle.gql_lex.specs.declared.run.Pieces.TheVariants.{QuotedItems, SoundItems}
-use Rattle.gql_lex.specs.declared.scan.Fault.TheVariants as fault
-use Rattle.gql_lex.specs.declared.scan.Found.TheVariants.{Token, Wrong}
+use Rattle.gql_lex.specs.declared.scan.Found.TheVariants.{Token}
 use Rattle.gql_lex.specs.declared.token.TokenKind.TheVariants as kind
 use Rattle.gql_lex.specs.Runs.{piece, run_len}
-use Rattle.gql_lex.specs.Strings.{closed_quoted, quoted}
+use Rattle.gql_lex.specs.Strings.{quoted}
 use Rattle.gql_lex.specs.inner.Lines.{is_no_control}
+use Rattle.gql_lex.proofs.Contents.{quoted-closed}
 use Rattle.gql_lex.proofs.Runs.{run_len-more, run_len-none}
 
 -- where no place passes a test, nothing does
@@ -66,15 +66,9 @@ at_quote rest = run_len-none QuotedItems (34 ∷ rest) refl
 -- they and a quote behind them are the rest of a string
 closed : (content rest : List ℕ) → NoMarks content → list_all is_no_control content ≡ true → Token kind.Quoted (length content + 2) ≡ quoted (content ++ 34 ∷ rest)
 closed content rest none stand =
-    let text : List ℕ = content ++ 34 ∷ rest in
     let behind = quoted_run content (34 ∷ rest) none stand in
     let stop = at_quote rest in
-    let run : run_len QuotedItems 0 text ≡ length content = omega (arith, behind, stop) in
-    sym
-    (ap (λ n. if starts_with nat_eq (drop n text) (34 ∷ []) then closed_quoted (take n text) else Wrong fault.Open 0) run
-    ∙ ap (λ t. if starts_with nat_eq t (34 ∷ []) then closed_quoted (take (length content) text) else Wrong fault.Open 0) (drop_at content (34 ∷ rest) (length content) refl)
-    ∙ ap closed_quoted (take_at content (34 ∷ rest) (length content) refl)
-    ∙ cond-true (run_len SoundItems 0 content == length content) _ _ (eq-eqb _ _ (sound_run content none stand)))
+    sym (quoted-closed content rest (omega (arith, behind, stop)) (sound_run content none stand))
 
 -- a text is what stands before a byte, the byte, and the rest
 split_at : (text : List ℕ) (len byte : ℕ) → len < length text → get_or text len 0 ≡ byte → text ≡ take len text ++ byte ∷ drop (len + 1) text

@@ -10,6 +10,7 @@ use Rattle.gql_lex.specs.Classes.{is_line_end, begins_name, continues_name, is_p
 use Rattle.gql_lex.specs.Longest.{Each, IsName, IsMinus, IsWhole}
 use Rattle.gql_lex.specs.Places.{spot_at}
 use Rattle.gql_lex.specs.Front.{front}
+use Rattle.gql_lex.specs.inner.Behind.{IsBehind}
 use Rattle.gql_lex.specs.declared.scan.Found.TheVariants.{Token}
 use Rattle.gql_lex.specs.declared.token.TokenKind.{TokenKind}
 use Rattle.gql_lex.specs.declared.token.TokenKind.TheVariants as kind
@@ -88,8 +89,8 @@ plain_word k text (inr (inr is)) right = plain_integer text (subst (λ (k : Toke
 
 -- ---- the place behind a word
 
-pub spot_at-word : (spot : Spot) (passed text : List ℕ) (k : TokenKind) (len : ℕ) → IsWord k → front text ≡ Some (Token k len) → spot ≡ spot_at passed text → place spot.line (spot.column + len) ≡ spot_at (passed ++ take len text) (drop len text)
-spot_at-word spot passed text k len word found is =
+pub IsBehind-word : (spot : Spot) (text : List ℕ) (k : TokenKind) (len : ℕ) → IsWord k → front text ≡ Some (Token k len) → IsBehind spot text len (place spot.line (spot.column + len))
+IsBehind-word spot text k len word found passed is =
     let sound = token-sound text k len found in
     let here = take len text in
     let plain = plain_word k here word sound.right in

@@ -27,6 +27,7 @@ pub struct Lexer<'a> {
 impl<'a> Lexer<'a> {
     ghost use Rattle.gql_lex.specs.Front.{front};
     ghost use Rattle.gql_lex.specs.declared.scan.Found.TheVariants as found;
+    ghost use Rattle.gql_lex.specs.inner.Behind.{IsBehind};
     ghost use Rattle.gql_lex.specs.Tokens.{Stands, left, next_of, done_with, told};
 
     /// A lexer that stands before the first byte of a text, which has fewer than 4,294,967,295 bytes.
@@ -82,13 +83,11 @@ impl<'a> Lexer<'a> {
         ensures kind { result.kind ≡ kind }
         ensures text { result.text.now ≡ take len (drop blanks self.old.rest.now) }
         ensures start { result.start ≡ self.old.start + blanks }
-        ensures spot { (passed : List ℕ) → self.old.spot ≡ spot_at passed self.old.rest.now →
-            result.spot ≡ spot_at (passed ++ take blanks self.old.rest.now) (drop blanks self.old.rest.now) }
+        ensures spot { IsBehind self.old.spot self.old.rest.now blanks result.spot }
         ensures rest { self.new.rest.now ≡ drop (blanks + len) self.old.rest.now }
         ensures shorter { length self.new.rest.now < length self.old.rest.now }
         ensures behind { self.new.start ≡ self.old.start + (blanks + len) }
-        ensures place { (passed : List ℕ) → self.old.spot ≡ spot_at passed self.old.rest.now →
-            self.new.spot ≡ spot_at (passed ++ take (blanks + len) self.old.rest.now) (drop (blanks + len) self.old.rest.now) }
+        ensures place { IsBehind self.old.spot self.old.rest.now (blanks + len) self.new.spot }
     {
         let bytes = self.rest.as_bytes();
         let start = self.start + blanks;

@@ -6,6 +6,7 @@ ghost use Rattle.gql_lex.specs.Classes.{is_line_end};
 ghost use Rattle.gql_lex.specs.Places.{ends_line, begins_character, spot_at};
 ghost use Rattle.gql_lex.specs.Front.{front};
 ghost use Rattle.gql_lex.specs.declared.scan.Found.TheVariants.{Token};
+ghost use Rattle.gql_lex.specs.inner.Behind.{IsBehind};
 ghost use Rattle.gql_lex.specs.inner.Lines.{on_line};
 
 use crate::token::TokenKind;
@@ -55,7 +56,7 @@ pub(crate) fn behind_token(spot: Spot, kind: TokenKind, text: &[u8], count: usiz
     requires count { count ≤ length text.now }
     requires line { spot.line + count < 2 ^ 32 }
     requires column { spot.column + count < 2 ^ 32 }
-    ensures place { (passed : List ℕ) → spot ≡ spot_at passed text.now → result ≡ spot_at (passed ++ take count text.now) (drop count text.now) }
+    ensures place { IsBehind spot text.now count result }
     ensures line { result.line ≤ spot.line + count }
     ensures column { result.column ≤ spot.column + count }
 {
@@ -74,7 +75,7 @@ pub(crate) fn behind_all(spot: Spot, text: &[u8], count: usize) -> Spot
     requires count { count ≤ length text.now }
     requires line { spot.line + count < 2 ^ 32 }
     requires column { spot.column + count < 2 ^ 32 }
-    ensures place { (passed : List ℕ) → spot ≡ spot_at passed text.now → result ≡ spot_at (passed ++ take count text.now) (drop count text.now) }
+    ensures place { IsBehind spot text.now count result }
     ensures line { result.line ≤ spot.line + count }
     ensures column { result.column ≤ spot.column + count }
 {
@@ -122,7 +123,7 @@ fn behind_each(spot: Spot, text: &[u8], count: usize) -> Spot
     requires count { count ≤ length text.now }
     requires line { spot.line + count < 2 ^ 32 }
     requires column { spot.column + count < 2 ^ 32 }
-    ensures place { (passed : List ℕ) → spot ≡ spot_at passed text.now → result ≡ spot_at (passed ++ take count text.now) (drop count text.now) }
+    ensures place { IsBehind spot text.now count result }
     ensures line { result.line ≤ spot.line + count }
     ensures column { result.column ≤ spot.column + count }
 {
