@@ -9,6 +9,7 @@ ghost use Rattle.gql_lex.specs.declared.scan.Found.TheVariants.{Token};
 ghost use Rattle.gql_lex.specs.inner.Behind.{IsBehind};
 ghost use Rattle.gql_lex.specs.inner.Lines.{on_line};
 
+use crate::run::is_line_end;
 use crate::token::TokenKind;
 use gql_tree::Spot;
 use memchr::memchr2;
@@ -87,11 +88,18 @@ pub(crate) fn behind_all(spot: Spot, text: &[u8], count: usize) -> Spot
     }
 }
 
+/// So many bytes are looked at one by one before a search through many at once pays.
+const FEW: usize = 16;
+
 /// Whether a text has a byte that ends a line, or begins the end of one.
 fn has_line_end(text: &[u8]) -> bool
     ensures { result ≡ list_any is_line_end text.now }
 {
-    memchr2(b'\n', b'\r', text).is_some()
+    if text.len() < FEW {
+        text.iter().any(|byte| is_line_end(*byte))
+    } else {
+        memchr2(b'\n', b'\r', text).is_some()
+    }
 }
 
 /// The place behind `passed` on the same line.
