@@ -575,7 +575,7 @@ no_name_no_fragment t h = and_none (is_name t) _ (is_name-has t ∙ disjoint-has
 
 module _ (n k : ℕ) (p q : Phrase (List Selection)) (r : Reader (List Selection)) (inner : Predictive n n p q r (this (codes "{")) no_tokens false) where
   field-predictive : Predictive n n (grammar.field (suc n) p) (grammar.field k q) (reading.field n r) names (these (codes "{" ∷ codes "@" ∷ codes "(" ∷ codes "(" ∷ codes ":" ∷ [])) false
-  unfolding reading.field
+  unfolding reading.field reading.behind_name
   field-predictive =
       bind-predictive name-predictive (λ first. bind-predictive (optional-predictive (codes ":") aliased-predictive) (λ second. bind-predictive (arguments-predictive false n k) (λ given.
       bind-predictive (directives-predictive false n k) (λ used. bind-predictive (listed-predictive (codes "{") inner) (λ inside. returns-predictive _) refl) refl) refl) refl) refl

@@ -1,10 +1,11 @@
 //! Selections: sections 2.4, 2.5 and 2.8 of the standard.
 
-ghost use Rattle.std.specs.Prelude.{codes, ◌≡◌, option_map};
+ghost use Rattle.std.specs.Prelude.{codes, ◌≡◌, option_map, MatchResult};
 ghost use Rattle.gql_lex.specs.Tokens.{lexeme};
 ghost use Rattle.gql_doc.specs.inner.Left.{left};
 ghost use Rattle.gql_doc.specs.Terminals.{is_punctuator, is_word, is_name};
-ghost use Rattle.gql_doc.specs.inner.Reading.{Gives, next_is, many, optional, listed, aliased, type_condition, field, spread, inline_fragment, any_selection, selection_set, selections, begins_selection, is_on};
+ghost use Rattle.gql_doc.specs.declared.parser.Stop.TheVariants as stop;
+ghost use Rattle.gql_doc.specs.inner.Reading.{Gives, next_is, many, optional, listed, aliased, type_condition, field, lone_field, behind_name, spread, inline_fragment, any_selection, selection_set, selections, begins_selection, is_on};
 
 use crate::parser::{Parser, Stop};
 use crate::terminal::Terminal;
@@ -89,6 +90,33 @@ impl<'a> Parser<'a> {
         ensures { Gives (λ x. x) result (left self.new) (field room (selections room) (left self.old)) }
     {
         let first = self.take(Terminal::Name)?;
+        if self.next_is(Terminal::FieldPart) {
+            self.behind_name(room, first)
+        } else {
+            self.lone_field(first)
+        }
+    }
+
+    /// `Field` that is only its name
+    fn lone_field(&self, name: &Token<'_>) -> Result<Selection, Stop>
+        ensures { MatchResult result (λ field. field ≡ lone_field (lexeme name.now)) (λ why. why ≡ stop.NoMemory) }
+    {
+        Ok(Selection::Field(FieldNode {
+            alias: None,
+            name: self.text(name)?,
+            arguments: Listed::new(self.alloc),
+            directives: Listed::new(self.alloc),
+            selections: Listed::new(self.alloc),
+            spot: name.spot,
+        }))
+    }
+
+    /// `Field`, behind its first name
+    #[cycle(selection)]
+    #[tactic(auto, unfolding(crate::specs::inner::Reading::behind_name))]
+    fn behind_name(&mut self, room: u32, first: &Token<'_>) -> Result<Selection, Stop>
+        ensures { Gives (λ x. x) result (left self.new) (behind_name room (selections room) (lexeme first.now) (left self.old)) }
+    {
         let second = self.aliased()?;
         let arguments = self.arguments(false, room)?;
         let directives = self.directives(false, room)?;

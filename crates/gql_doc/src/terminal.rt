@@ -1,8 +1,9 @@
 //! The terminals of the grammar.
 
 ghost use Rattle.std.specs.Prelude.{◌≡◌, codes};
+ghost use Rattle.std.specs.Str.{bytes_eq};
 ghost use Rattle.gql_lex.specs.Tokens.{lexeme};
-ghost use Rattle.gql_doc.specs.Terminals.{is_punctuator, is_name, is_number, is_string, is_word, is_fragment_name, is_operation_type};
+ghost use Rattle.gql_doc.specs.Terminals.{is_punctuator, is_name, is_number, is_string, is_word, is_fragment_name, is_operation_type, is_field_part};
 ghost use Rattle.gql_doc.specs.inner.Matches.{matches};
 
 use gql_lex::{Token, TokenKind};
@@ -22,6 +23,8 @@ pub(crate) enum Terminal {
     FragmentName,
     /// `query`, `mutation` or `subscription`.
     OperationType,
+    /// What goes on with a field behind its name: `:`, `(`, `@` or `{`.
+    FieldPart,
 }
 
 impl Terminal {
@@ -37,6 +40,7 @@ impl Terminal {
             Terminal::Word(text) => is_word(token, text),
             Terminal::FragmentName => is_fragment_name(token),
             Terminal::OperationType => is_operation_type(token),
+            Terminal::FieldPart => is_field_part(token),
         }
     }
 }
@@ -44,7 +48,17 @@ impl Terminal {
 fn is_punctuator(token: &Token<'_>, text: &str) -> bool
     ensures { result ≡ is_punctuator text.now (lexeme token.now) }
 {
-    matches!(token.kind, TokenKind::Punctuator) && token.text == text
+    matches!(token.kind, TokenKind::Punctuator) && is_same(token.text, text)
+}
+
+/// Whether two texts are the same. Texts of one byte, as most punctuators are, are compared at once.
+fn is_same(left: &str, right: &str) -> bool
+    ensures { result ≡ bytes_eq left.now right.now }
+{
+    match (left.as_bytes(), right.as_bytes()) {
+        ([byte], [other]) => byte == other,
+        _ => left == right,
+    }
 }
 
 fn is_name(token: &Token<'_>) -> bool
@@ -82,4 +96,11 @@ fn is_operation_type(token: &Token<'_>) -> bool
 {
     is_name(token)
         && (token.text == "query" || token.text == "mutation" || token.text == "subscription")
+}
+
+fn is_field_part(token: &Token<'_>) -> bool
+    ensures { result ≡ is_field_part (lexeme token.now) }
+{
+    matches!(token.kind, TokenKind::Punctuator)
+        && matches!(token.text.as_bytes(), [b':' | b'(' | b'@' | b'{'])
 }

@@ -217,14 +217,21 @@ aliased = punctuator (codes ":") >>= λ _. name
 abbrev pub begins_selection : Lexeme → Bool
 begins_selection token = is_name token || is_punctuator (codes "...") token
 
-unfoldable pub field : ℕ → Reader (List Selection) → Reader Selection
-field room inner = do
-  first ← name
+-- a field that is only its name
+abbrev pub lone_field : Lexeme → Selection
+lone_field word = selection.Field (roll-FieldNode (record { alias = None; name = word.text; arguments = []; directives = []; selections = []; spot = word.spot }))
+
+-- a field behind its first name
+unfoldable pub behind_name : ℕ → Reader (List Selection) → Lexeme → Reader Selection
+behind_name room inner first = do
   second ← optional (is_punctuator (codes ":")) aliased
   given ← arguments false room
   used ← directives false room
   inside ← listed (is_punctuator (codes "{")) inner
   gives (selection.Field (roll-FieldNode (record { alias = alias_by first second; name = name_by first second; arguments = given; directives = used; selections = inside; spot = first.spot })))
+
+unfoldable pub field : ℕ → Reader (List Selection) → Reader Selection
+field room inner = name >>= λ first. behind_name room inner first
 
 unfoldable pub spread : ℕ → Reader Selection
 spread room = do
