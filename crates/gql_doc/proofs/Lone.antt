@@ -3,14 +3,14 @@ use Rattle.std.proofs.Common.{◌≡◌, ℕ, false, List, [], ◌∷◌, Result
 use Rattle.std.proofs.lemmas.Bool.{or_parts}
 use Rattle.gql_lex.specs.Tokens.{Lexeme}
 use Rattle.gql_doc.specs.Terminals.{is_punctuator, is_name, is_field_part}
-use Rattle.gql_doc.specs.inner.Reading.{Reader, Gives, take, next_is, field, lone_field, behind_name, arguments, directives}
+use Rattle.gql_doc.specs.inner.Reading.{Reader, Gives, take, next_is, field, lone_field, behind_name, behind_names, arguments, directives}
 use Rattle.gql_doc.specs.declared.parser.Stop.{Stop}
 use Rattle.gql_doc.specs.declared.parser.Stop.TheVariants as stop
 use Rattle.gql_model.specs.declared.syntax.Selection.{Selection}
 
 -- where nothing goes on with a field behind its name, the field is read and nothing more
 pub behind_name-lone : (room : ℕ) (inner : Reader (List Selection)) (first : Lexeme) (tokens : List Lexeme) → next_is is_field_part tokens ≡ false → behind_name room inner first tokens ≡ Ok (lone_field first, tokens)
-unfolding behind_name arguments directives
+unfolding behind_name behind_names arguments directives
 behind_name-lone room inner first [] none = refl
 behind_name-lone room inner first (token ∷ tokens) none =
     let no_colon = or_parts (is_punctuator (codes ":") token) _ none in

@@ -498,7 +498,7 @@ unfolding reading.default_value
 default-predictive n k = bind-predictive (punctuator-predictive (codes "=") refl refl) (λ _. value-predictive true n k) refl
 
 variable_definition-predictive : (n k : ℕ) → Predictive n n (grammar.variable_definition (suc n)) (grammar.variable_definition k) (reading.variable_definition n) (this (codes "$")) (these (codes "@" ∷ codes "(" ∷ codes "=" ∷ codes "!" ∷ [])) false
-unfolding reading.variable_definition
+unfolding reading.variable_definition reading.behind_colon
 variable_definition-predictive n k =
     bind-predictive (punctuator-predictive (codes "$") refl refl) (λ dollar. bind-predictive name-predictive (λ word. bind-predictive (punctuator-predictive (codes ":") refl refl) (λ _.
     bind-predictive (type_ref-predictive n k) (λ kind. bind-predictive (optional-predictive (codes "=") (default-predictive n k)) (λ default. bind-predictive (directives-predictive true n k) (λ used.
@@ -575,7 +575,7 @@ no_name_no_fragment t h = and_none (is_name t) _ (is_name-has t ∙ disjoint-has
 
 module _ (n k : ℕ) (p q : Phrase (List Selection)) (r : Reader (List Selection)) (inner : Predictive n n p q r (this (codes "{")) no_tokens false) where
   field-predictive : Predictive n n (grammar.field (suc n) p) (grammar.field k q) (reading.field n r) names (these (codes "{" ∷ codes "@" ∷ codes "(" ∷ codes "(" ∷ codes ":" ∷ [])) false
-  unfolding reading.field reading.behind_name
+  unfolding reading.field reading.behind_name reading.behind_names
   field-predictive =
       bind-predictive name-predictive (λ first. bind-predictive (optional-predictive (codes ":") aliased-predictive) (λ second. bind-predictive (arguments-predictive false n k) (λ given.
       bind-predictive (directives-predictive false n k) (λ used. bind-predictive (listed-predictive (codes "{") inner) (λ inside. returns-predictive _) refl) refl) refl) refl) refl

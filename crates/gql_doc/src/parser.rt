@@ -19,6 +19,22 @@ pub(crate) enum Stop {
     NoMemory,
 }
 
+impl Stop {
+    ghost use Rattle.std.specs.Prelude.{◌≡◌, if◌then◌else◌};
+    ghost use Rattle.gql_doc.specs.declared.parser.Stop.TheVariants as stop;
+
+    /// Why the parser stops where nothing more may be opened, by whether the next token opens something.
+    pub(crate) fn where_shut(opens: bool) -> Stop
+        ensures { result ≡ (if opens then stop.TooDeep else stop.Unexpected) }
+    {
+        if opens {
+            Stop::TooDeep
+        } else {
+            Stop::Unexpected
+        }
+    }
+}
+
 impl From<NoMemory> for Stop {
     ghost use Rattle.std.specs.Prelude.{◌≡◌};
     ghost use Rattle.gql_doc.specs.declared.parser.Stop.TheVariants as stop;

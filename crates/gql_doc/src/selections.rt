@@ -3,15 +3,16 @@
 ghost use Rattle.std.specs.Prelude.{codes, ◌≡◌, option_map, MatchResult};
 ghost use Rattle.gql_lex.specs.Tokens.{lexeme};
 ghost use Rattle.gql_doc.specs.inner.Left.{left};
+ghost use Rattle.gql_doc.specs.Grammar.{alias_by, name_by, inline_spot};
 ghost use Rattle.gql_doc.specs.Terminals.{is_punctuator, is_word, is_name};
 ghost use Rattle.gql_doc.specs.declared.parser.Stop.TheVariants as stop;
-ghost use Rattle.gql_doc.specs.inner.Reading.{Gives, next_is, many, optional, listed, aliased, type_condition, field, lone_field, behind_name, spread, inline_fragment, any_selection, selection_set, selections, begins_selection, is_on};
+ghost use Rattle.gql_doc.specs.inner.Reading.{Gives, next_is, many, optional, listed, aliased, type_condition, field, lone_field, behind_name, behind_names, spread, inline_fragment, any_selection, selection_set, selections, begins_selection, is_on};
 
 use crate::parser::{Parser, Stop};
 use crate::terminal::Terminal;
 use gql_lex::Token;
 use gql_model::{FieldNode, InlineNode, Selection, SpreadNode};
-use gql_tree::{Listed, Spot};
+use gql_tree::{Listed, Spot, Text};
 
 impl<'a> Parser<'a> {
     /// `SelectionSet`, with the place of its `{`
@@ -21,11 +22,7 @@ impl<'a> Parser<'a> {
         ensures { Gives (λ x. x) result (left self.new) (selection_set room (left self.old)) }
     {
         if room == 0 {
-            return Err(if self.next_is(Terminal::Punctuator("{")) {
-                Stop::TooDeep
-            } else {
-                Stop::Unexpected
-            });
+            return Err(Stop::where_shut(self.next_is(Terminal::Punctuator("{"))));
         }
         let opening = self.take(Terminal::Punctuator("{"))?;
         self.require(self.next_is_selection())?;
@@ -118,17 +115,24 @@ impl<'a> Parser<'a> {
         ensures { Gives (λ x. x) result (left self.new) (behind_name room (selections room) (lexeme first.now) (left self.old)) }
     {
         let second = self.aliased()?;
+        self.behind_names(room, first, second)
+    }
+
+    /// `Field`, behind its first name and the one behind a colon
+    #[cycle(selection)]
+    #[tactic(auto, unfolding(crate::specs::inner::Reading::behind_names))]
+    fn behind_names(
+        &mut self,
+        room: u32,
+        first: &Token<'_>,
+        second: Option<&Token<'_>>,
+    ) -> Result<Selection, Stop>
+        ensures { Gives (λ x. x) result (left self.new) (behind_names room (selections room) (lexeme first.now) (option_map (λ token. lexeme token.now) second.entry) (left self.old)) }
+    {
         let arguments = self.arguments(false, room)?;
         let directives = self.directives(false, room)?;
-        let selections = if self.next_is(Terminal::Punctuator("{")) {
-            self.selections(room)?
-        } else {
-            Listed::new(self.alloc)
-        };
-        let (alias, name) = match second {
-            Some(second) => (Some(self.text(first)?), self.text(second)?),
-            None => (None, self.text(first)?),
-        };
+        let selections = self.maybe_selections(room)?;
+        let (alias, name) = self.alias_and_name(first, second)?;
         Ok(Selection::Field(FieldNode {
             alias,
             name,
@@ -137,6 +141,32 @@ impl<'a> Parser<'a> {
             selections,
             spot: first.spot,
         }))
+    }
+
+    /// `SelectionSet?`
+    #[cycle(selection)]
+    fn maybe_selections(&mut self, room: u32) -> Result<Listed<Selection>, Stop>
+        ensures { Gives (λ x. x) result (left self.new) (listed (is_punctuator (codes "{")) (selections room) (left self.old)) }
+    {
+        if self.next_is(Terminal::Punctuator("{")) {
+            self.selections(room)
+        } else {
+            Ok(Listed::new(self.alloc))
+        }
+    }
+
+    /// The alias and the name of a field, by its first name and the one behind a colon.
+    fn alias_and_name(
+        &self,
+        first: &Token<'_>,
+        second: Option<&Token<'_>>,
+    ) -> Result<(Option<Text>, Text), Stop>
+        ensures { MatchResult result (λ names. (names.0 ≡ alias_by (lexeme first.now) (option_map (λ token. lexeme token.now) second.entry)) × (names.1 ≡ name_by (lexeme first.now) (option_map (λ token. lexeme token.now) second.entry))) (λ why. why ≡ stop.NoMemory) }
+    {
+        match second {
+            Some(second) => Ok((Some(self.text(first)?), self.text(second)?)),
+            None => Ok((None, self.text(first)?)),
+        }
     }
 
     /// The name behind an alias and its colon, where a colon stands next.
@@ -173,15 +203,11 @@ impl<'a> Parser<'a> {
         let condition = self.maybe_type_condition()?;
         let directives = self.directives(false, room)?;
         let selections = self.selections(room)?;
-        let (condition, spot) = match condition {
-            Some(word) => (Some(self.text(word)?), word.spot),
-            None => (None, dots),
-        };
         Ok(Selection::Inline(InlineNode {
-            condition,
+            condition: self.text_of(condition)?,
             directives,
             selections,
-            spot,
+            spot: inline_spot(dots, condition),
         }))
     }
 
@@ -201,5 +227,15 @@ impl<'a> Parser<'a> {
     {
         self.take(Terminal::Word("on"))?;
         self.take(Terminal::Name)
+    }
+}
+
+/// Where an inline fragment stands: at its type, and at its `...` where it has none.
+fn inline_spot(dots: Spot, condition: Option<&Token<'_>>) -> Spot
+    ensures { result ≡ inline_spot dots (option_map (λ token. lexeme token.now) condition.entry) }
+{
+    match condition {
+        Some(word) => word.spot,
+        None => dots,
     }
 }

@@ -7,7 +7,7 @@ ghost use Rattle.std.specs.Prelude.{◌≡◌, ◌∷◌, [], codes, List, IfOk}
 ghost use Rattle.gql_lex.specs.Tokens.{lexeme};
 ghost use Rattle.gql_doc.specs.inner.Left.{left};
 ghost use Rattle.gql_doc.specs.Terminals.{is_punctuator, is_name, is_number, is_string};
-ghost use Rattle.gql_doc.specs.inner.Reading.{Gives, next_is, many, value, nested, argument, arguments, directive, directives, begins_value, variable, word, list_value, object_value};
+ghost use Rattle.gql_doc.specs.inner.Reading.{Gives, next_is, many, value, nested, argument, arguments, directive, directives, begins_value, variable, number, string, word, list_value, object_value};
 
 use crate::parser::{Parser, Stop};
 use crate::string_token::string_value;
@@ -25,12 +25,10 @@ impl Parser<'_> {
             return self.variable(constant);
         }
         if self.next_is(Terminal::Number) {
-            let number = self.take(Terminal::Number)?;
-            return Ok(Literal::Int(self.text(number)?, number.spot));
+            return self.number();
         }
         if self.next_is(Terminal::StringValue) {
-            let string = self.take(Terminal::StringValue)?;
-            return Ok(Literal::Text(string_value(self.alloc, string)?, string.spot));
+            return self.string();
         }
         if self.next_is(Terminal::Name) {
             return self.word();
@@ -48,6 +46,22 @@ impl Parser<'_> {
         let dollar = self.take(Terminal::Punctuator("$"))?;
         let word = self.take(Terminal::Name)?;
         Ok(Literal::Variable(self.text(word)?, dollar.spot))
+    }
+
+    /// `IntValue`
+    fn number(&mut self) -> Result<Literal, Stop>
+        ensures { Gives (λ x. x) result (left self.new) (number (left self.old)) }
+    {
+        let number = self.take(Terminal::Number)?;
+        Ok(Literal::Int(self.text(number)?, number.spot))
+    }
+
+    /// `StringValue`
+    fn string(&mut self) -> Result<Literal, Stop>
+        ensures { Gives (λ x. x) result (left self.new) (string (left self.old)) }
+    {
+        let string = self.take(Terminal::StringValue)?;
+        Ok(Literal::Text(string_value(self.alloc, string)?, string.spot))
     }
 
     /// `BooleanValue`, `NullValue` or `EnumValue`
@@ -71,11 +85,7 @@ impl Parser<'_> {
     {
         let is_list = self.next_is(Terminal::Punctuator("["));
         if room == 0 {
-            return Err(if is_list || self.next_is(Terminal::Punctuator("{")) {
-                Stop::TooDeep
-            } else {
-                Stop::Unexpected
-            });
+            return Err(Stop::where_shut(is_list || self.next_is(Terminal::Punctuator("{"))));
         }
         if is_list {
             self.list_value(constant, room - 1)
@@ -156,9 +166,10 @@ impl Parser<'_> {
     {
         let word = self.take(Terminal::Name)?;
         self.take(Terminal::Punctuator(":"))?;
+        let name = self.text(word)?;
         let value = self.value(constant, room)?;
         Ok(Argument {
-            name: self.text(word)?,
+            name,
             value,
             spot: word.spot,
         })

@@ -1,12 +1,14 @@
 //! Variables and types: sections 2.10 and 2.11 of the standard.
 
 ghost use Rattle.std.specs.Prelude.{codes, ◌≡◌, IfOk};
+ghost use Rattle.gql_lex.specs.Tokens.{lexeme};
 ghost use Rattle.gql_doc.specs.inner.Left.{left};
 ghost use Rattle.gql_doc.specs.Terminals.{is_punctuator};
-ghost use Rattle.gql_doc.specs.inner.Reading.{Gives, next_is, many, type_ref, list_type, named_type, maybe_non_null, variable_definition, variable_definitions, optional, default_value};
+ghost use Rattle.gql_doc.specs.inner.Reading.{Gives, next_is, many, type_ref, list_type, named_type, maybe_non_null, variable_definition, behind_colon, variable_definitions, optional, default_value};
 
 use crate::parser::{Parser, Stop};
 use crate::terminal::Terminal;
+use gql_lex::Token;
 use gql_model::{Boxed, Literal, TypeRef, VariableDef};
 use gql_tree::Listed;
 
@@ -40,11 +42,7 @@ impl Parser<'_> {
         ensures { Gives (λ x. x) result (left self.new) (list_type room (left self.old)) }
     {
         if room == 0 {
-            return Err(if self.next_is(Terminal::Punctuator("[")) {
-                Stop::TooDeep
-            } else {
-                Stop::Unexpected
-            });
+            return Err(Stop::where_shut(self.next_is(Terminal::Punctuator("["))));
         }
         self.take(Terminal::Punctuator("["))?;
         let item = self.type_ref(room - 1)?;
@@ -83,11 +81,25 @@ impl Parser<'_> {
         let dollar = self.take(Terminal::Punctuator("$"))?;
         let word = self.take(Terminal::Name)?;
         self.take(Terminal::Punctuator(":"))?;
+        self.behind_colon(room, dollar, word)
+    }
+
+    /// `VariableDefinition`, behind its colon
+    #[tactic(auto, unfolding(crate::specs::inner::Reading::behind_colon))]
+    fn behind_colon(
+        &mut self,
+        room: u32,
+        dollar: &Token<'_>,
+        word: &Token<'_>,
+    ) -> Result<VariableDef, Stop>
+        ensures { Gives (λ x. x) result (left self.new) (behind_colon room (lexeme dollar.now) (lexeme word.now) (left self.old)) }
+    {
+        let name = self.text(word)?;
         let kind = self.type_ref(room)?;
         let default = self.default_value(room)?;
         let directives = self.directives(true, room)?;
         Ok(VariableDef {
-            name: self.text(word)?,
+            name,
             kind,
             default,
             directives,

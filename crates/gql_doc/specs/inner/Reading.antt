@@ -129,6 +129,12 @@ argument value = do
   it ← value
   gives (roll-Argument (record { name = word.text; value = it; spot = word.spot }))
 
+abbrev pub number : Reader Literal
+number = take is_number >>= λ it. gives (literal.Int it.text it.spot)
+
+abbrev pub string : Reader Literal
+string = take is_string >>= λ it. gives (literal.Text (string_value it.kind it.text) it.spot)
+
 abbrev pub word : Reader Literal
 word = name >>= λ it. gives (word_value it)
 
@@ -145,8 +151,8 @@ nested_value value = pick (is_punctuator (codes "[")) (list_value value) (object
 abbrev pub value_or : Bool → Reader Literal → Reader Literal
 value_or constant nested =
     pick (is_punctuator (codes "$")) (variable constant)
-    (pick is_number (take is_number >>= λ number. gives (literal.Int number.text number.spot))
-    (pick is_string (take is_string >>= λ string. gives (literal.Text (string_value string.kind string.text) string.spot))
+    (pick is_number number
+    (pick is_string string
     (pick is_name word
     nested)))
 
@@ -196,15 +202,20 @@ type_ref room = type_or (list_type room)
 unfoldable pub default_value : ℕ → Reader Literal
 default_value room = punctuator (codes "=") >>= λ _. value true room
 
+-- a variable's definition behind its colon
+unfoldable pub behind_colon : ℕ → Lexeme → Lexeme → Reader VariableDef
+behind_colon room dollar word = do
+  kind ← type_ref room
+  default ← optional (is_punctuator (codes "=")) (default_value room)
+  used ← directives true room
+  gives (record { name = word.text; kind = kind; default = default; directives = used; spot = dollar.spot })
+
 unfoldable pub variable_definition : ℕ → Reader VariableDef
 variable_definition room = do
   dollar ← punctuator (codes "$")
   word ← name
   punctuator (codes ":")
-  kind ← type_ref room
-  default ← optional (is_punctuator (codes "=")) (default_value room)
-  used ← directives true room
-  gives (record { name = word.text; kind = kind; default = default; directives = used; spot = dollar.spot })
+  behind_colon room dollar word
 
 unfoldable pub variable_definitions : ℕ → Reader (List VariableDef)
 variable_definitions room = listed (is_punctuator (codes "(")) (between (codes "(") (some (is_punctuator (codes "$")) (variable_definition room)) (codes ")") >>= λ all. gives all.1)
@@ -221,14 +232,17 @@ begins_selection token = is_name token || is_punctuator (codes "...") token
 abbrev pub lone_field : Lexeme → Selection
 lone_field word = selection.Field (roll-FieldNode (record { alias = None; name = word.text; arguments = []; directives = []; selections = []; spot = word.spot }))
 
--- a field behind its first name
-unfoldable pub behind_name : ℕ → Reader (List Selection) → Lexeme → Reader Selection
-behind_name room inner first = do
-  second ← optional (is_punctuator (codes ":")) aliased
+-- a field behind its names
+unfoldable pub behind_names : ℕ → Reader (List Selection) → Lexeme → Option Lexeme → Reader Selection
+behind_names room inner first second = do
   given ← arguments false room
   used ← directives false room
   inside ← listed (is_punctuator (codes "{")) inner
   gives (selection.Field (roll-FieldNode (record { alias = alias_by first second; name = name_by first second; arguments = given; directives = used; selections = inside; spot = first.spot })))
+
+-- a field behind its first name
+unfoldable pub behind_name : ℕ → Reader (List Selection) → Lexeme → Reader Selection
+behind_name room inner first = optional (is_punctuator (codes ":")) aliased >>= λ second. behind_names room inner first second
 
 unfoldable pub field : ℕ → Reader (List Selection) → Reader Selection
 field room inner = name >>= λ first. behind_name room inner first
