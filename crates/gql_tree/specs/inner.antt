@@ -1,3 +1,4 @@
 pub mod Place
 pub mod SameLayer
 pub mod United
+pub mod Held

@@ -124,6 +124,7 @@ impl<T: Drop> Fields<T> {
     {
         match position_of(self.items.as_slice(), name.as_str()) {
             Some(at) => {
+                drop(name);
                 self.items[at].value = value;
                 Ok(())
             }
