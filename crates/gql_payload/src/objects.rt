@@ -1,15 +1,18 @@
 //! The JSON of each thing that a payload holds. An object gets its members from the last name to
 //! the first, so that each new one comes before the others.
 
-ghost use Rattle.std.specs.Prelude.{◌≡◌, ℕ, Some, IfOk, OnOk, option_map};
+ghost use Rattle.std.specs.Prelude.{◌≡◌, ℕ, Some, IfOk, OnOk, codes};
 ghost use Rattle.serde_json.specs.Data.{boolean, string};
-ghost use Rattle.serde_json.specs.View.{view};
+ghost use Rattle.serde_json.specs.View.{view, members_view};
 ghost use Rattle.gql_tree.specs.Json.{data_of};
-ghost use Rattle.gql_payload.specs.PayloadText.{key_data, path_data, location_data, locations_data, fault_data, pending_data, fields_data, items_data, entry_data, completed_data, payload_data};
+ghost use Rattle.gql_payload.specs.PayloadText.{number, key_data, path_data, location_data, locations_data, fault_data, pending_data, fields_data, items_data, entry_data, completed_data, payload_data};
+ghost use Rattle.gql_payload.specs.inner.Members.{put_some};
 ghost use Rattle.gql_tree.specs.Typed.{IsTypedValue, IsTypedKey, IsTypedPath, IsTypedFault, IsTypedPending, HasTypedFields, HasTypedItems, IsTypedEntry, IsTypedCompleted, IsTypedPayload};
 
-use crate::parts::{ToSerde, array, if_some, put_some, unless_empty};
-use gql_tree::{Completed, Content, Entry, Fault, Key, NoMemory, Path, Payload, Pending, Text};
+use crate::parts::{ToSerde, array, put, put_array, put_if_some, put_unless_empty};
+use gql_tree::{
+    Completed, Content, Entry, Fault, Key, NoMemory, Path, Payload, Pending, Spot, Text,
+};
 use serde_json::{Map, Value};
 use std::alloc::Global;
 
@@ -20,6 +23,26 @@ impl ToSerde for gql_tree::Value {
 
     fn to_serde(&self, alloc: Global) -> Result<Value, NoMemory> {
         self.to_serde(alloc)
+    }
+}
+
+impl ToSerde for bool {
+    ghost datum = { boolean };
+
+    ghost is_typed = { λ _. Unit };
+
+    fn to_serde(&self, _: Global) -> Result<Value, NoMemory> {
+        Ok(Value::Bool(*self))
+    }
+}
+
+impl ToSerde for u32 {
+    ghost datum = { number };
+
+    ghost is_typed = { λ _. Unit };
+
+    fn to_serde(&self, _: Global) -> Result<Value, NoMemory> {
+        Ok(Value::from(*self))
     }
 }
 
@@ -57,25 +80,33 @@ impl ToSerde for Path {
 }
 
 /// A place in the text of a request.
-fn location_data(alloc: Global, line: u32, column: u32) -> Result<Value, NoMemory>
-    ensures { IfOk result (λ json. view json ≡ location_data line column) }
-{
-    let mut map = Map::new(alloc);
-    put_some(&mut map, alloc, "line", Some(Value::from(line)))?;
-    put_some(&mut map, alloc, "column", Some(Value::from(column)))?;
-    Ok(Value::Object(map))
+impl ToSerde for Spot {
+    ghost datum = { λ spot. location_data spot.line spot.column };
+
+    ghost is_typed = { λ _. Unit };
+
+    fn to_serde(&self, alloc: Global) -> Result<Value, NoMemory> {
+        let mut map = Map::new(alloc);
+        put(&mut map, alloc, "line", &self.line)?;
+        put(&mut map, alloc, "column", &self.column)?;
+        Ok(Value::Object(map))
+    }
 }
 
-/// The list of an error's one place; line 0 means that it has none.
-fn locations_data(alloc: Global, line: u32, column: u32) -> Result<Option<Value>, NoMemory>
-    ensures { IfOk result (λ json. option_map view json ≡ locations_data line column) }
+/// Puts the list of an error's one place; line 0 means that it has none.
+fn put_locations(
+    map: &mut Map<String, Value>,
+    alloc: Global,
+    line: u32,
+    column: u32,
+) -> Result<(), NoMemory>
+    ensures { OnOk result (members_view map.new.entries
+        ≡ put_some (codes "locations") (locations_data line column) (members_view map.old.entries)) }
 {
     if line == 0 {
-        return Ok(None);
+        return Ok(());
     }
-    let mut list = Vec::new(alloc);
-    list.push(location_data(alloc, line, column)?)?;
-    Ok(Some(Value::Array(list)))
+    put_array(map, alloc, "locations", &[Spot { line, column }])
 }
 
 impl ToSerde for Fault {
@@ -84,13 +115,10 @@ impl ToSerde for Fault {
     ghost is_typed = { IsTypedFault };
 
     fn to_serde(&self, alloc: Global) -> Result<Value, NoMemory> {
-        let path = if_some(alloc, &self.path)?;
-        let message = self.message.to_serde(alloc)?;
-        let locations = locations_data(alloc, self.line, self.column)?;
         let mut map = Map::new(alloc);
-        put_some(&mut map, alloc, "path", path)?;
-        put_some(&mut map, alloc, "message", Some(message))?;
-        put_some(&mut map, alloc, "locations", locations)?;
+        put_if_some(&mut map, alloc, "path", &self.path)?;
+        put(&mut map, alloc, "message", &self.message)?;
+        put_locations(&mut map, alloc, self.line, self.column)?;
         Ok(Value::Object(map))
     }
 }
@@ -101,36 +129,39 @@ impl ToSerde for Pending {
     ghost is_typed = { IsTypedPending };
 
     fn to_serde(&self, alloc: Global) -> Result<Value, NoMemory> {
-        let path = self.path.to_serde(alloc)?;
-        let label = if_some(alloc, &self.label)?;
-        let id = self.id.to_serde(alloc)?;
         let mut map = Map::new(alloc);
-        put_some(&mut map, alloc, "path", Some(path))?;
-        put_some(&mut map, alloc, "label", label)?;
-        put_some(&mut map, alloc, "id", Some(id))?;
+        put(&mut map, alloc, "path", &self.path)?;
+        put_if_some(&mut map, alloc, "label", &self.label)?;
+        put(&mut map, alloc, "id", &self.id)?;
         Ok(Value::Object(map))
     }
 }
 
-/// The fields of an entry, where it has fields.
-fn fields(alloc: Global, content: &Content) -> Result<Option<Value>, NoMemory>
-    ensures json { IfOk result (λ json. option_map view json ≡ fields_data content.now) }
+/// Puts the fields of an entry, where it has fields.
+fn put_fields(
+    map: &mut Map<String, Value>,
+    alloc: Global,
+    content: &Content,
+) -> Result<(), NoMemory>
+    ensures json { OnOk result (members_view map.new.entries
+        ≡ put_some (codes "data") (fields_data content.now) (members_view map.old.entries)) }
     ensures typed { OnOk result (HasTypedFields content.now) }
 {
     match content {
-        Content::Fields(fields) => Ok(Some(fields.to_serde(alloc)?)),
-        Content::Items(_) => Ok(None),
+        Content::Fields(fields) => put(map, alloc, "data", fields),
+        Content::Items(_) => Ok(()),
     }
 }
 
-/// The items of an entry, where it has items: an empty list too.
-fn items(alloc: Global, content: &Content) -> Result<Option<Value>, NoMemory>
-    ensures json { IfOk result (λ json. option_map view json ≡ items_data content.now) }
+/// Puts the items of an entry, where it has items: an empty list too.
+fn put_items(map: &mut Map<String, Value>, alloc: Global, content: &Content) -> Result<(), NoMemory>
+    ensures json { OnOk result (members_view map.new.entries
+        ≡ put_some (codes "items") (items_data content.now) (members_view map.old.entries)) }
     ensures typed { OnOk result (HasTypedItems content.now) }
 {
     match content {
-        Content::Fields(_) => Ok(None),
-        Content::Items(items) => Ok(Some(array(alloc, items.as_slice())?)),
+        Content::Fields(_) => Ok(()),
+        Content::Items(items) => put_array(map, alloc, "items", items.as_slice()),
     }
 }
 
@@ -140,17 +171,12 @@ impl ToSerde for Entry {
     ghost is_typed = { IsTypedEntry };
 
     fn to_serde(&self, alloc: Global) -> Result<Value, NoMemory> {
-        let sub_path = unless_empty(alloc, self.sub_path.keys.as_slice())?;
-        let items = items(alloc, &self.content)?;
-        let id = self.id.to_serde(alloc)?;
-        let errors = unless_empty(alloc, self.errors.as_slice())?;
-        let fields = fields(alloc, &self.content)?;
         let mut map = Map::new(alloc);
-        put_some(&mut map, alloc, "subPath", sub_path)?;
-        put_some(&mut map, alloc, "items", items)?;
-        put_some(&mut map, alloc, "id", Some(id))?;
-        put_some(&mut map, alloc, "errors", errors)?;
-        put_some(&mut map, alloc, "data", fields)?;
+        put_unless_empty(&mut map, alloc, "subPath", self.sub_path.keys.as_slice())?;
+        put_items(&mut map, alloc, &self.content)?;
+        put(&mut map, alloc, "id", &self.id)?;
+        put_unless_empty(&mut map, alloc, "errors", self.errors.as_slice())?;
+        put_fields(&mut map, alloc, &self.content)?;
         Ok(Value::Object(map))
     }
 }
@@ -161,22 +187,10 @@ impl ToSerde for Completed {
     ghost is_typed = { IsTypedCompleted };
 
     fn to_serde(&self, alloc: Global) -> Result<Value, NoMemory> {
-        let id = self.id.to_serde(alloc)?;
-        let failures = unless_empty(alloc, self.errors.as_slice())?;
         let mut map = Map::new(alloc);
-        put_some(&mut map, alloc, "id", Some(id))?;
-        put_some(&mut map, alloc, "errors", failures)?;
+        put(&mut map, alloc, "id", &self.id)?;
+        put_unless_empty(&mut map, alloc, "errors", self.errors.as_slice())?;
         Ok(Value::Object(map))
-    }
-}
-
-impl ToSerde for bool {
-    ghost datum = { boolean };
-
-    ghost is_typed = { λ _. Unit };
-
-    fn to_serde(&self, _: Global) -> Result<Value, NoMemory> {
-        Ok(Value::Bool(*self))
     }
 }
 
@@ -186,19 +200,13 @@ impl ToSerde for Payload {
     ghost is_typed = { IsTypedPayload };
 
     fn to_serde(&self, alloc: Global) -> Result<Value, NoMemory> {
-        let pending = unless_empty(alloc, self.pending.as_slice())?;
-        let incremental = unless_empty(alloc, self.incremental.as_slice())?;
-        let has_next = if_some(alloc, &self.has_next)?;
-        let errors = unless_empty(alloc, self.errors.as_slice())?;
-        let initial = if_some(alloc, &self.initial)?;
-        let completed = unless_empty(alloc, self.completed.as_slice())?;
         let mut map = Map::new(alloc);
-        put_some(&mut map, alloc, "pending", pending)?;
-        put_some(&mut map, alloc, "incremental", incremental)?;
-        put_some(&mut map, alloc, "hasNext", has_next)?;
-        put_some(&mut map, alloc, "errors", errors)?;
-        put_some(&mut map, alloc, "data", initial)?;
-        put_some(&mut map, alloc, "completed", completed)?;
+        put_unless_empty(&mut map, alloc, "pending", self.pending.as_slice())?;
+        put_unless_empty(&mut map, alloc, "incremental", self.incremental.as_slice())?;
+        put_if_some(&mut map, alloc, "hasNext", &self.has_next)?;
+        put_unless_empty(&mut map, alloc, "errors", self.errors.as_slice())?;
+        put_if_some(&mut map, alloc, "data", &self.initial)?;
+        put_unless_empty(&mut map, alloc, "completed", self.completed.as_slice())?;
         Ok(Value::Object(map))
     }
 }

@@ -5,7 +5,7 @@ ghost use Rattle.serde_json.specs.View.{view};
 ghost use Rattle.gql_payload.specs.ReportText.{failure_data, report_data, report_text};
 ghost use Rattle.gql_tree.specs.Typed.{IsTypedFailure, IsTypedValue};
 
-use crate::parts::{ToSerde, array, if_some, put_some};
+use crate::parts::{ToSerde, put, put_array, put_if_some};
 use gql_tree::{Failure, Fault, NoMemory, Text, Value};
 use serde_json::Map;
 use std::alloc::Global;
@@ -16,13 +16,10 @@ impl ToSerde for Failure {
     ghost is_typed = { IsTypedFailure };
 
     fn to_serde(&self, alloc: Global) -> Result<serde_json::Value, NoMemory> {
-        let path = self.path.to_serde(alloc)?;
-        let label = if_some(alloc, &self.label)?;
-        let errors = array(alloc, self.errors.as_slice())?;
         let mut map = Map::new(alloc);
-        put_some(&mut map, alloc, "path", Some(path))?;
-        put_some(&mut map, alloc, "label", label)?;
-        put_some(&mut map, alloc, "errors", Some(errors))?;
+        put(&mut map, alloc, "path", &self.path)?;
+        put_if_some(&mut map, alloc, "label", &self.label)?;
+        put_array(&mut map, alloc, "errors", self.errors.as_slice())?;
         Ok(serde_json::Value::Object(map))
     }
 }
@@ -36,13 +33,10 @@ fn report_json(
     ensures json { IfOk result (λ json. view json ≡ report_data value.now errors.now failures.now) }
     ensures typed { OnOk result (IsTypedValue value.now) }
 {
-    let failures = array(alloc, failures)?;
-    let errors = array(alloc, errors)?;
-    let data = value.to_serde(alloc)?;
     let mut map = Map::new(alloc);
-    put_some(&mut map, alloc, "failures", Some(failures))?;
-    put_some(&mut map, alloc, "errors", Some(errors))?;
-    put_some(&mut map, alloc, "data", Some(data))?;
+    put_array(&mut map, alloc, "failures", failures)?;
+    put_array(&mut map, alloc, "errors", errors)?;
+    put(&mut map, alloc, "data", value)?;
     Ok(serde_json::Value::Object(map))
 }
 

@@ -8,6 +8,6 @@ use Rattle.gql_payload.proofs.objects.CompletedToSerde.to_serde.Goals as goal
 
 pub returns-clause-json : goal.returns-clause-json
 returns-clause-json c =
-    let made : members_view c.put_some-2.new.map.entries ≡ put_each (completed_parts c.args.self.now) =
-    simp (c.in_ok-put_some-2.ensures, c.in_ok-put_some.ensures, c.new-map.ensures.empty, c.in_ok-id.ensures.json, c.in_ok-failures.ensures.json, c.as_slice.ensures) refl in
-    view-Object c.put_some-2.new.map ∙ ap object (made ∙ put_each-members (completed_parts c.args.self.now) refl)
+    let made : members_view c.put_unless_empty.new.map.entries ≡ put_each (completed_parts c.args.self.now) =
+    simp (c.in_ok-put_unless_empty.ensures.json, c.in_ok-put.ensures.json, c.new-map.ensures.empty, c.as_slice.ensures) refl in
+    view-Object c.put_unless_empty.new.map ∙ ap object (made ∙ put_each-members (completed_parts c.args.self.now) refl)

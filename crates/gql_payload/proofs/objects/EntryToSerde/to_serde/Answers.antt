@@ -8,6 +8,6 @@ use Rattle.gql_payload.proofs.objects.EntryToSerde.to_serde.Goals as goal
 
 pub returns-clause-json : goal.returns-clause-json
 returns-clause-json c =
-    let made : members_view c.put_some-5.new.map.entries ≡ put_each (entry_parts c.args.self.now) =
-    simp (c.in_ok-put_some-5.ensures, c.in_ok-put_some-4.ensures, c.in_ok-put_some-3.ensures, c.in_ok-put_some-2.ensures, c.in_ok-put_some.ensures, c.new-map.ensures.empty, c.in_ok-sub_path.ensures.json, c.in_ok-items.ensures.json, c.in_ok-id.ensures.json, c.in_ok-errors.ensures.json, c.in_ok-fields.ensures.json, c.as_slice.ensures, c.as_slice-2.ensures) refl in
-    view-Object c.put_some-5.new.map ∙ ap object (made ∙ put_each-members (entry_parts c.args.self.now) refl)
+    let made : members_view c.put_fields.new.map.entries ≡ put_each (entry_parts c.args.self.now) =
+    simp (c.in_ok-put_fields.ensures.json, c.in_ok-put_unless_empty-2.ensures.json, c.in_ok-put.ensures.json, c.in_ok-put_items.ensures.json, c.in_ok-put_unless_empty.ensures.json, c.new-map.ensures.empty, c.as_slice.ensures, c.as_slice-2.ensures) refl in
+    view-Object c.put_fields.new.map ∙ ap object (made ∙ put_each-members (entry_parts c.args.self.now) refl)

@@ -8,6 +8,6 @@ use Rattle.gql_payload.proofs.objects.FaultToSerde.to_serde.Goals as goal
 
 pub returns-clause-json : goal.returns-clause-json
 returns-clause-json c =
-    let made : members_view c.put_some-3.new.map.entries ≡ put_each (fault_parts c.args.self.now) =
-    simp (c.in_ok-put_some-3.ensures, c.in_ok-put_some-2.ensures, c.in_ok-put_some.ensures, c.new-map.ensures.empty, c.in_ok-path.ensures.json, c.in_ok-message.ensures.json, c.in_ok-locations.ensures) refl in
-    view-Object c.put_some-3.new.map ∙ ap object (made ∙ put_each-members (fault_parts c.args.self.now) refl)
+    let made : members_view c.put_locations.new.map.entries ≡ put_each (fault_parts c.args.self.now) =
+    simp (c.in_ok-put_locations.ensures, c.in_ok-put.ensures.json, c.in_ok-put_if_some.ensures.json, c.new-map.ensures.empty) refl in
+    view-Object c.put_locations.new.map ∙ ap object (made ∙ put_each-members (fault_parts c.args.self.now) refl)

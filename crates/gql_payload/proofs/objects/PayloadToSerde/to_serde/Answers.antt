@@ -8,6 +8,6 @@ use Rattle.gql_payload.proofs.objects.PayloadToSerde.to_serde.Goals as goal
 
 pub returns-clause-json : goal.returns-clause-json
 returns-clause-json c =
-    let made : members_view c.put_some-6.new.map.entries ≡ put_each (payload_parts c.args.self.now) =
-    simp (c.in_ok-put_some-6.ensures, c.in_ok-put_some-5.ensures, c.in_ok-put_some-4.ensures, c.in_ok-put_some-3.ensures, c.in_ok-put_some-2.ensures, c.in_ok-put_some.ensures, c.new-map.ensures.empty, c.in_ok-pending.ensures.json, c.in_ok-incremental.ensures.json, c.in_ok-has_next.ensures.json, c.in_ok-errors.ensures.json, c.in_ok-initial.ensures.json, c.in_ok-completed.ensures.json, c.as_slice.ensures, c.as_slice-2.ensures, c.as_slice-3.ensures, c.as_slice-4.ensures) refl in
-    view-Object c.put_some-6.new.map ∙ ap object (made ∙ put_each-members (payload_parts c.args.self.now) refl)
+    let made : members_view c.put_unless_empty-4.new.map.entries ≡ put_each (payload_parts c.args.self.now) =
+    simp (c.in_ok-put_unless_empty-4.ensures.json, c.in_ok-put_if_some-2.ensures.json, c.in_ok-put_unless_empty-3.ensures.json, c.in_ok-put_if_some.ensures.json, c.in_ok-put_unless_empty-2.ensures.json, c.in_ok-put_unless_empty.ensures.json, c.new-map.ensures.empty, c.as_slice.ensures, c.as_slice-2.ensures, c.as_slice-3.ensures, c.as_slice-4.ensures) refl in
+    view-Object c.put_unless_empty-4.new.map ∙ ap object (made ∙ put_each-members (payload_parts c.args.self.now) refl)

@@ -8,6 +8,6 @@ use Rattle.gql_payload.proofs.objects.PendingToSerde.to_serde.Goals as goal
 
 pub returns-clause-json : goal.returns-clause-json
 returns-clause-json c =
-    let made : members_view c.put_some-3.new.map.entries ≡ put_each (pending_parts c.args.self.now) =
-    simp (c.in_ok-put_some-3.ensures, c.in_ok-put_some-2.ensures, c.in_ok-put_some.ensures, c.new-map.ensures.empty, c.in_ok-path.ensures.json, c.in_ok-label.ensures.json, c.in_ok-id.ensures.json) refl in
-    view-Object c.put_some-3.new.map ∙ ap object (made ∙ put_each-members (pending_parts c.args.self.now) refl)
+    let made : members_view c.put-2.new.map.entries ≡ put_each (pending_parts c.args.self.now) =
+    simp (c.in_ok-put-2.ensures.json, c.in_ok-put_if_some.ensures.json, c.in_ok-put.ensures.json, c.new-map.ensures.empty) refl in
+    view-Object c.put-2.new.map ∙ ap object (made ∙ put_each-members (pending_parts c.args.self.now) refl)

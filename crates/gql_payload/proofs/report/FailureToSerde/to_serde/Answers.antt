@@ -8,6 +8,6 @@ use Rattle.gql_payload.proofs.report.FailureToSerde.to_serde.Goals as goal
 
 pub returns-clause-json : goal.returns-clause-json
 returns-clause-json c =
-    let made : members_view c.put_some-3.new.map.entries ≡ put_each (failure_parts c.args.self.now) =
-    simp (c.in_ok-put_some-3.ensures, c.in_ok-put_some-2.ensures, c.in_ok-put_some.ensures, c.new-map.ensures.empty, c.in_ok-path.ensures.json, c.in_ok-label.ensures.json, c.in_ok-errors.ensures.json, c.as_slice.ensures) refl in
-    view-Object c.put_some-3.new.map ∙ ap object (made ∙ put_each-members (failure_parts c.args.self.now) refl)
+    let made : members_view c.put_array.new.map.entries ≡ put_each (failure_parts c.args.self.now) =
+    simp (c.in_ok-put_array.ensures.json, c.in_ok-put_if_some.ensures.json, c.in_ok-put.ensures.json, c.new-map.ensures.empty, c.as_slice.ensures) refl in
+    view-Object c.put_array.new.map ∙ ap object (made ∙ put_each-members (failure_parts c.args.self.now) refl)
