@@ -5,12 +5,12 @@ use Rattle.std.specs.Prelude.{slice_get, option_and_then, option_map}
 use Rattle.std.proofs.lemmas.Slice.Eq.{bytes_eq-Decides}
 use Rattle.gql_tree.specs.declared.path.Key.{Key}
 use Rattle.gql_tree.specs.declared.path.Key.TheVariants.{Name, Index}
-use Rattle.gql_tree.specs.declared.value.Value.{Value, out-Value}
+use Rattle.gql_tree.specs.declared.value.Value.{Value, out-Value, roll-Value, roll-out-Value}
 use Rattle.gql_tree.specs.declared.value.Value.TheOpen.{Value-F}
-use Rattle.gql_tree.specs.declared.value.Value.TheVariants.{outs-List}
+use Rattle.gql_tree.specs.declared.value.Value.TheVariants.{outs-List, outs-Object, rolls-List, rolls-Object}
 use Rattle.gql_tree.specs.declared.value.Value.TheVariants as Value
 use Rattle.gql_tree.specs.declared.fields.Named.{Named}
-use Rattle.gql_tree.specs.Flat.{Layer, list, mark_of, items_of, members_of, below, find}
+use Rattle.gql_tree.specs.Flat.{Layer, list, object, mark_of, items_of, members_of, below, find}
 use Rattle.gql_tree.specs.Names.{named, has_name, apart}
 use Rattle.gql_tree.proofs.Names.{either, both}
 use Rattle.gql_tree.specs.Same.{SameFlat, SameMaybe, SameItems}
@@ -152,3 +152,69 @@ layer_of_items a b xs ys r e f h =
 
 pub value_of_items : (v w : Value) (xs ys : List Value) (r : Bool) → v ≡ Value.List xs → w ≡ Value.List ys → IsTrue r ↔ SameItems xs ys → IsTrue r ↔ SameLayer (out-Value v) (out-Value w)
 value_of_items v w xs ys r e f h = layer_of_items _ _ xs ys r (ap out-Value e ∙ outs-List xs) (ap out-Value f ∙ outs-List ys) h
+
+-- ---- values of other kinds
+
+abbrev IsNoList : Layer → Type 0
+IsNoList a = (xs : List Value) → a ≡ Value-F.List xs → ⊥
+
+abbrev IsNoObject : Layer → Type 0
+IsNoObject a = (ms : List (Named Value)) → a ≡ Value-F.Object ms → ⊥
+
+no_list : (v : Value) → ((xs : List Value) → v ≡ Value.List xs → ⊥) → IsNoList (out-Value v)
+no_list v h xs e = h xs (sym (roll-out-Value v) ∙ (ap roll-Value e ∙ rolls-List xs))
+
+no_object : (v : Value) → ((ms : List (Named Value)) → v ≡ Value.Object ms → ⊥) → IsNoObject (out-Value v)
+no_object v h ms e = h ms (sym (roll-out-Value v) ∙ (ap roll-Value e ∙ rolls-Object ms))
+
+leaf_apart : (a : Layer) → IsNoObject a → IsTrue (apart (members_of a))
+leaf_apart Value-F.Null h = refl
+leaf_apart (Value-F.Bool b) h = refl
+leaf_apart (Value-F.Int n) h = refl
+leaf_apart (Value-F.Text t) h = refl
+leaf_apart (Value-F.List xs) h = refl
+leaf_apart (Value-F.Object ms) h = absurd (h ms refl)
+
+-- a value without members has no name twice
+pub value_apart : (v : Value) → ((ms : List (Named Value)) → v ≡ Value.Object ms → ⊥) → IsTrue (apart (members_of (out-Value v)))
+value_apart v h = leaf_apart (out-Value v) (no_object v h)
+
+leaf_same : (a b : Layer) → IsNoList a → IsNoObject a → mark_of a ≡ mark_of b → SameLayer a b
+leaf_same Value-F.Null Value-F.Null p q h = (h, tt, tt, tt)
+leaf_same Value-F.Null _ p q h = absurd (cc)
+leaf_same (Value-F.Bool b) (Value-F.Bool c) p q h = (h, tt, tt, tt)
+leaf_same (Value-F.Bool b) _ p q h = absurd (cc)
+leaf_same (Value-F.Int m) (Value-F.Int n) p q h = (h, tt, tt, tt)
+leaf_same (Value-F.Int m) _ p q h = absurd (cc)
+leaf_same (Value-F.Text t) (Value-F.Text u) p q h = (h, tt, tt, tt)
+leaf_same (Value-F.Text t) _ p q h = absurd (cc)
+leaf_same (Value-F.List xs) b p q h = absurd (p xs refl)
+leaf_same (Value-F.Object ms) b p q h = absurd (q ms refl)
+
+-- leaves of one mark are the same
+pub value_of_leaf : (v w : Value) (r : Bool) → ((xs : List Value) → v ≡ Value.List xs → ⊥) → ((ms : List (Named Value)) → v ≡ Value.Object ms → ⊥) → IsTrue r ↔ (mark_of (out-Value v) ≡ mark_of (out-Value w)) → IsTrue r ↔ SameLayer (out-Value v) (out-Value w)
+value_of_leaf v w r p q h = (λ t. leaf_same _ _ (no_list v p) (no_object v q) (h.0 t), λ s. h.1 s.0)
+
+list_alone : (b : Layer) (n : ℕ) → IsNoList b → list n ≡ mark_of b → ⊥
+list_alone (Value-F.List ys) n q h = q ys refl
+list_alone Value-F.Null n q h = absurd (cc)
+list_alone (Value-F.Bool b) n q h = absurd (cc)
+list_alone (Value-F.Int m) n q h = absurd (cc)
+list_alone (Value-F.Text t) n q h = absurd (cc)
+list_alone (Value-F.Object ms) n q h = absurd (cc)
+
+object_alone : (b : Layer) → IsNoObject b → object ≡ mark_of b → ⊥
+object_alone (Value-F.Object ns) q h = q ns refl
+object_alone Value-F.Null q h = absurd (cc)
+object_alone (Value-F.Bool b) q h = absurd (cc)
+object_alone (Value-F.Int m) q h = absurd (cc)
+object_alone (Value-F.Text t) q h = absurd (cc)
+object_alone (Value-F.List xs) q h = absurd (cc)
+
+-- a list differs from what is none
+pub list_differs : (v w : Value) (xs : List Value) → v ≡ Value.List xs → ((ys : List Value) → w ≡ Value.List ys → ⊥) → IsTrue false ↔ SameLayer (out-Value v) (out-Value w)
+list_differs v w xs e q = (λ f. absurd (cc), λ s. absurd (list_alone (out-Value w) (length xs) (no_list w q) (sym (ap mark_of (ap out-Value e ∙ outs-List xs)) ∙ s.0)))
+
+-- an object differs from what is none
+pub object_differs : (v w : Value) (ms : List (Named Value)) → v ≡ Value.Object ms → ((ns : List (Named Value)) → w ≡ Value.Object ns → ⊥) → IsTrue false ↔ SameLayer (out-Value v) (out-Value w)
+object_differs v w ms e q = (λ f. absurd (cc), λ s. absurd (object_alone (out-Value w) (no_object w q) (sym (ap mark_of (ap out-Value e ∙ outs-Object ms)) ∙ s.0)))

@@ -50,7 +50,8 @@ impl Value {
         }
     }
 
-    fn same_mark(&self, other: &Value) -> bool
+    /// Whether a client sees the same of the two, but for what is below.
+    pub(crate) fn same_mark(&self, other: &Value) -> bool
         ensures { IsTrue result ↔ (mark_of (out-Value self.now) ≡ mark_of (out-Value other.now)) }
     {
         match self {

@@ -98,22 +98,6 @@ impl Value {
         ensures same { IsTrue result ↔ SameLayer (out-Value self.now) (out-Value other.now) }
     {
         match self {
-            Value::Null => match other {
-                Value::Null => true,
-                _ => false,
-            },
-            Value::Bool(truth) => match other {
-                Value::Bool(second) => *truth == *second,
-                _ => false,
-            },
-            Value::Int(number) => match other {
-                Value::Int(second) => *number == *second,
-                _ => false,
-            },
-            Value::Text(text) => match other {
-                Value::Text(second) => text.as_str() == second.as_str(),
-                _ => false,
-            },
             Value::List(items) => match other {
                 Value::List(second) => same_items(items.as_slice(), second.as_slice()),
                 _ => false,
@@ -127,6 +111,7 @@ impl Value {
                     _ => false,
                 }
             }
+            _ => self.same_mark(other),
         }
     }
 }
