@@ -4,6 +4,7 @@ use crate::shared::{lexer_of, titled};
 use gql_lex::{LexRefusal, Lexer, Token, TokenKind};
 use gql_tree::Spot;
 use std::alloc::Global;
+use std::process::Abort;
 use std::test::Fail;
 
 /// Each token as its kind, its text, its start and its place, and then the refusal.
@@ -34,48 +35,9 @@ fn shown(alloc: Global, text: &str) -> Result<String, Fail> {
     Err(Fail::new("no end"))
 }
 
-#[test]
-fn tokens(rt: HostRuntime) -> Result<(), Fail> {
-    let alloc = rt.alloc();
-    let table = [
-        ("", ""),
-        (" \t,\r\n\u{feff}#x\u{e9}\n", ""),
-        (
-            "{a:-0}",
-            "Punctuator { 0 1:1; Name a 1 1:2; Punctuator : 2 1:3; Int -0 3 1:4; Punctuator } 5 1:6; ",
-        ),
-        (
-            "!$&()...:=@[]|",
-            "Punctuator ! 0 1:1; Punctuator $ 1 1:2; Punctuator & 2 1:3; Punctuator ( 3 1:4; Punctuator ) 4 1:5; Punctuator ... 5 1:6; Punctuator : 8 1:9; Punctuator = 9 1:10; Punctuator @ 10 1:11; Punctuator [ 11 1:12; Punctuator ] 12 1:13; Punctuator | 13 1:14; ",
-        ),
-        ("_a9Z b", "Name _a9Z 0 1:1; Name b 5 1:6; "),
-        (
-            "a\r\nb\rc\nd\n\re",
-            "Name a 0 1:1; Name b 3 2:1; Name c 5 3:1; Name d 7 4:1; Name e 10 6:1; ",
-        ),
-        ("#\u{e9}\u{1f600}\u{e9}\r\u{feff}a#b", "Name a 13 2:2; "),
-        (
-            "0 10,\"\"1",
-            "Int 0 0 1:1; Int 10 2 1:3; Quoted \"\" 5 1:6; Int 1 7 1:8; ",
-        ),
-        (
-            "\"\\\"\\\\\\/\\b\\f\\n\\r\\t\\u00e9\"x",
-            "Quoted \"\\\"\\\\\\/\\b\\f\\n\\r\\t\\u00e9\" 0 1:1; Name x 24 1:25; ",
-        ),
-        (
-            "\"\\uD83D\\uDE00\t\u{e9}\"x",
-            "Quoted \"\\uD83D\\uDE00\t\u{e9}\" 0 1:1; Name x 17 1:17; ",
-        ),
-        (
-            "\"\"\"a\r\n\\\"\"\"\\q\"\"\u{e9} \"\"\"x",
-            "Block \"\"\"a\r\n\\\"\"\"\\q\"\"\u{e9} \"\"\" 0 1:1; Name x 20 2:14; ",
-        ),
-        (
-            "\"\"\"\"\"\"\"\"",
-            "Block \"\"\"\"\"\" 0 1:1; Quoted \"\" 6 1:7; ",
-        ),
-    ];
-    for (text, want) in table {
+/// Each text is shown as it stands beside it.
+fn each_shown(rt: &impl Abort, alloc: Global, table: &[(&str, &str)]) -> Result<(), Fail> {
+    for &(text, want) in table {
         let got = shown(alloc, text)?;
         assert_eq!(rt; got.as_str(), want, "{text}");
     }
@@ -83,51 +45,95 @@ fn tokens(rt: HostRuntime) -> Result<(), Fail> {
 }
 
 #[test]
+fn tokens(rt: HostRuntime) -> Result<(), Fail> {
+    each_shown(
+        &rt,
+        rt.alloc(),
+        &[
+            ("", ""),
+            (" \t,\r\n\u{feff}#x\u{e9}\n", ""),
+            (
+                "{a:-0}",
+                "Punctuator { 0 1:1; Name a 1 1:2; Punctuator : 2 1:3; Int -0 3 1:4; Punctuator } 5 1:6; ",
+            ),
+            (
+                "!$&()...:=@[]|",
+                "Punctuator ! 0 1:1; Punctuator $ 1 1:2; Punctuator & 2 1:3; Punctuator ( 3 1:4; Punctuator ) 4 1:5; Punctuator ... 5 1:6; Punctuator : 8 1:9; Punctuator = 9 1:10; Punctuator @ 10 1:11; Punctuator [ 11 1:12; Punctuator ] 12 1:13; Punctuator | 13 1:14; ",
+            ),
+            ("_a9Z b", "Name _a9Z 0 1:1; Name b 5 1:6; "),
+            (
+                "a\r\nb\rc\nd\n\re",
+                "Name a 0 1:1; Name b 3 2:1; Name c 5 3:1; Name d 7 4:1; Name e 10 6:1; ",
+            ),
+            ("#\u{e9}\u{1f600}\u{e9}\r\u{feff}a#b", "Name a 13 2:2; "),
+            (
+                "0 10,\"\"1",
+                "Int 0 0 1:1; Int 10 2 1:3; Quoted \"\" 5 1:6; Int 1 7 1:8; ",
+            ),
+            (
+                "\"\\\"\\\\\\/\\b\\f\\n\\r\\t\\u00e9\"x",
+                "Quoted \"\\\"\\\\\\/\\b\\f\\n\\r\\t\\u00e9\" 0 1:1; Name x 24 1:25; ",
+            ),
+            (
+                "\"\\uD83D\\uDE00\t\u{e9}\"x",
+                "Quoted \"\\uD83D\\uDE00\t\u{e9}\" 0 1:1; Name x 17 1:17; ",
+            ),
+            (
+                "\"\"\"a\r\n\\\"\"\"\\q\"\"\u{e9} \"\"\"x",
+                "Block \"\"\"a\r\n\\\"\"\"\\q\"\"\u{e9} \"\"\" 0 1:1; Name x 20 2:14; ",
+            ),
+            (
+                "\"\"\"\"\"\"\"\"",
+                "Block \"\"\"\"\"\" 0 1:1; Quoted \"\" 6 1:7; ",
+            ),
+        ],
+    )
+}
+
+#[test]
 fn refusals(rt: HostRuntime) -> Result<(), Fail> {
-    let alloc = rt.alloc();
-    let table = [
-        ("\u{e9}", "BadCharacter 1:1"),
-        ("..", "BadCharacter 1:1"),
-        (
-            "a....",
-            "Name a 0 1:1; Punctuator ... 1 1:2; BadCharacter 1:5",
-        ),
-        ("\r\n %", "BadCharacter 2:2"),
-        ("#\u{e9}\u{1}", "BadCharacter 1:3"),
-        ("\"\u{e9}\u{0}\"", "BadCharacter 1:3"),
-        ("\"\"\"\n\u{1f}\"\"\"", "BadCharacter 2:1"),
-        ("-", "BadNumber 1:1"),
-        ("-a", "BadNumber 1:1"),
-        (" 01", "BadNumber 1:2"),
-        ("1.", "BadNumber 1:1"),
-        ("1.a", "BadNumber 1:1"),
-        ("1e", "BadNumber 1:1"),
-        ("1e+", "BadNumber 1:1"),
-        ("1.5.", "BadNumber 1:1"),
-        ("1_", "BadNumber 1:1"),
-        ("1...", "BadNumber 1:1"),
-        (" 1.5", "FloatToken 1:2"),
-        ("-0e-05 ", "FloatToken 1:1"),
-        ("1.0E+1,", "FloatToken 1:1"),
-        ("\"\\q\"", "BadEscape 1:2"),
-        ("\"\u{e9}\\u12\"", "BadEscape 1:3"),
-        ("\"\\uD83D\"", "BadEscape 1:2"),
-        ("\"\\uDE00\\uD83D\"", "BadEscape 1:2"),
-        ("\"\\uD83D\\uD83D\\uDE00\"", "BadEscape 1:2"),
-        ("\"\\n\\\u{1}\"", "BadEscape 1:4"),
-        ("\"", "OpenString 1:1"),
-        ("a\n \"\\\"", "Name a 0 1:1; OpenString 2:2"),
-        ("\"\\q\u{1}", "OpenString 1:1"),
-        ("\"a\n\"", "OpenString 1:1"),
-        ("\"\\\r\"", "OpenString 1:1"),
-        ("\"\"\"\\\"\"\"", "OpenString 1:1"),
-        ("\"\"\"\u{1}\"\"", "OpenString 1:1"),
-    ];
-    for (text, want) in table {
-        let got = shown(alloc, text)?;
-        assert_eq!(rt; got.as_str(), want, "{text}");
-    }
-    Ok(())
+    each_shown(
+        &rt,
+        rt.alloc(),
+        &[
+            ("\u{e9}", "BadCharacter 1:1"),
+            ("..", "BadCharacter 1:1"),
+            (
+                "a....",
+                "Name a 0 1:1; Punctuator ... 1 1:2; BadCharacter 1:5",
+            ),
+            ("\r\n %", "BadCharacter 2:2"),
+            ("#\u{e9}\u{1}", "BadCharacter 1:3"),
+            ("\"\u{e9}\u{0}\"", "BadCharacter 1:3"),
+            ("\"\"\"\n\u{1f}\"\"\"", "BadCharacter 2:1"),
+            ("-", "BadNumber 1:1"),
+            ("-a", "BadNumber 1:1"),
+            (" 01", "BadNumber 1:2"),
+            ("1.", "BadNumber 1:1"),
+            ("1.a", "BadNumber 1:1"),
+            ("1e", "BadNumber 1:1"),
+            ("1e+", "BadNumber 1:1"),
+            ("1.5.", "BadNumber 1:1"),
+            ("1_", "BadNumber 1:1"),
+            ("1...", "BadNumber 1:1"),
+            (" 1.5", "FloatToken 1:2"),
+            ("-0e-05 ", "FloatToken 1:1"),
+            ("1.0E+1,", "FloatToken 1:1"),
+            ("\"\\q\"", "BadEscape 1:2"),
+            ("\"\u{e9}\\u12\"", "BadEscape 1:3"),
+            ("\"\\uD83D\"", "BadEscape 1:2"),
+            ("\"\\uDE00\\uD83D\"", "BadEscape 1:2"),
+            ("\"\\uD83D\\uD83D\\uDE00\"", "BadEscape 1:2"),
+            ("\"\\n\\\u{1}\"", "BadEscape 1:4"),
+            ("\"", "OpenString 1:1"),
+            ("a\n \"\\\"", "Name a 0 1:1; OpenString 2:2"),
+            ("\"\\q\u{1}", "OpenString 1:1"),
+            ("\"a\n\"", "OpenString 1:1"),
+            ("\"\\\r\"", "OpenString 1:1"),
+            ("\"\"\"\\\"\"\"", "OpenString 1:1"),
+            ("\"\"\"\u{1}\"\"", "OpenString 1:1"),
+        ],
+    )
 }
 
 /// How many tokens a text has, and its refusal.
@@ -156,7 +162,7 @@ fn long_texts(rt: HostRuntime) -> Result<(), Fail> {
         ("#", 0, None),
         ("\r", 0, None),
     ];
-    for (piece, tokens, refusal) in table {
+    for &(piece, tokens, refusal) in &table {
         let text = piece.repeat(alloc, 1_048_576)?;
         assert_eq!(rt; counted(text.as_str())?, (tokens, refusal), "{piece}");
     }
@@ -198,7 +204,7 @@ fn ends(rt: HostRuntime) -> Result<(), Fail> {
         ("#\u{e9}\r", (2, 1)),
         ("\u{e9}\u{10ffff}", (1, 3)),
     ];
-    for (text, end) in table {
+    for &(text, end) in &table {
         assert_eq!(rt; end_of(text)?, end);
     }
     Ok(())
@@ -229,7 +235,7 @@ fn messages(rt: HostRuntime) -> Result<(), Fail> {
             "the number at 2:7 has a fraction or an exponent",
         ),
     ];
-    for (refusal, want) in table {
+    for &(refusal, want) in &table {
         let got = format!(in rt.alloc(); "{refusal}")?;
         assert_eq!(rt; got.as_str(), want);
     }

@@ -90,13 +90,20 @@ mod tests {
     use crate::choppy::Choppy;
     use std::fs::Permissions;
     use std::os::unix::fs::PermissionsExt;
+    use std::process::Abort;
     use std::test::Fail;
 
-    fn outcome(read: &Result<Bytes, ShelfRefusal>) -> Result<&[u8], ShelfRefusal> {
-        match read {
+    /// A read gives these bytes or refuses so.
+    fn is_read(
+        rt: &impl Abort,
+        read: &Result<Bytes, ShelfRefusal>,
+        want: Result<&[u8], ShelfRefusal>,
+    ) {
+        let outcome = match read {
             Ok(bytes) => Ok(bytes.as_slice()),
             Err(refusal) => Err(*refusal),
-        }
+        };
+        assert_eq!(rt; outcome, want);
     }
 
     #[test]
@@ -104,7 +111,7 @@ mod tests {
         fs::write(&rt, "five.txt", "12345")?;
         fs::write(&rt, "empty.txt", "")?;
         let mut shelf = FileShelf::new(&rt);
-        for (name, most, want, faults) in [
+        for &(name, most, want, faults) in &[
             ("five.txt", 6, Ok(b"12345".as_slice()), 0),
             ("five.txt", 5, Ok(b"12345".as_slice()), 0),
             ("five.txt", 4, Err(ShelfRefusal::TooLong), 0),
@@ -116,8 +123,8 @@ mod tests {
             (".", 0, Err(ShelfRefusal::Failed), 2),
         ] {
             let read = shelf.read(rt.alloc(), name, most);
-            assert_eq!(rt; outcome(&read), want, "{name}, {most}");
-            assert_eq!(rt; shelf.faults(), faults, "{name}, {most}");
+            is_read(&rt, &read, want);
+            assert_eq!(rt; shelf.faults(), faults);
         }
         Ok(())
     }
@@ -132,7 +139,7 @@ mod tests {
         let read = shelf.read(rt.alloc(), "locked.txt", 5);
         fs::remove_file(&rt, "locked.txt")?;
         if locked {
-            assert_eq!(rt; outcome(&read), Err(ShelfRefusal::Failed));
+            is_read(&rt, &read, Err(ShelfRefusal::Failed));
             assert_eq!(rt; shelf.faults(), 1);
         }
         Ok(())
@@ -140,7 +147,7 @@ mod tests {
 
     #[test]
     fn a_read_that_fails_in_the_middle(rt: HostRuntime) {
-        for (kind, most, want) in [
+        for &(kind, most, want) in &[
             (ErrorKind::Interrupted, 5, Ok(b"12345".as_slice())),
             (ErrorKind::Interrupted, 4, Err(ShelfRefusal::TooLong)),
             (ErrorKind::ConnectionReset, 5, Err(ShelfRefusal::Failed)),
@@ -154,7 +161,7 @@ mod tests {
                 kind,
             };
             let read = read_whole(rt.alloc(), reader, most);
-            assert_eq!(rt; outcome(&read), want, "{kind}, {most}");
+            is_read(&rt, &read, want);
         }
     }
 }

@@ -78,24 +78,42 @@ impl Shelf for MemoryShelf {
 #[cfg(test)]
 mod tests {
     use super::*;
+    use gql_tree::NoMemory;
+    use std::process::Abort;
     use std::test::Fail;
 
-    fn file(alloc: Global, name: &str, bytes: &[u8]) -> Result<ShelfFile, ShelfRefusal> {
-        Ok(ShelfFile {
-            name: Text::copy_of(alloc, name)?,
-            bytes: Bytes::copy_of(alloc, bytes)?,
-        })
+    fn file(alloc: Global, name: &str, bytes: &str) -> Result<ShelfFile, NoMemory> {
+        let name = Text::copy_of(alloc, name)?;
+        let bytes = Bytes::copy_of(alloc, bytes.as_bytes())?;
+        Ok(ShelfFile { name, bytes })
+    }
+
+    /// The next read gives these bytes or refuses so, and then so many calls have failed.
+    fn reads(
+        rt: &impl Abort,
+        shelf: &mut MemoryShelf,
+        (alloc, name, most): (Global, &str, u64),
+        want: Result<&[u8], ShelfRefusal>,
+        faults: u64,
+    ) {
+        let read = shelf.read(alloc, name, most);
+        let outcome = match &read {
+            Ok(bytes) => Ok(bytes.as_slice()),
+            Err(refusal) => Err(*refusal),
+        };
+        assert_eq!(rt; outcome, want);
+        assert_eq!(rt; shelf.faults(), faults);
     }
 
     #[test]
     fn calls_that_fail_among_others(rt: HostRuntime) -> Result<(), Fail> {
         let alloc = rt.alloc();
         let mut files = Vec::new(alloc);
-        for (name, bytes) in [("a", "alpha"), ("empty", ""), ("a", "hidden")] {
-            files.push(file(alloc, name, bytes.as_bytes())?)?;
+        for &(name, bytes) in &[("a", "alpha"), ("empty", ""), ("a", "hidden")] {
+            files.push(file(alloc, name, bytes)?)?;
         }
         let mut shelf = MemoryShelf::new(files, vec![in alloc; 1, 4]?);
-        for (name, most, want, faults) in [
+        for &(name, most, want, faults) in &[
             ("a", 5, Ok(b"alpha".as_slice()), 0),
             ("a", 5, Err(ShelfRefusal::Failed), 1),
             ("a", 5, Ok(b"alpha".as_slice()), 1),
@@ -104,13 +122,7 @@ mod tests {
             ("b", 5, Err(ShelfRefusal::Missing), 2),
             ("empty", 0, Ok(b"".as_slice()), 2),
         ] {
-            let read = shelf.read(alloc, name, most);
-            let outcome = match &read {
-                Ok(bytes) => Ok(bytes.as_slice()),
-                Err(refusal) => Err(*refusal),
-            };
-            assert_eq!(rt; outcome, want, "{name}, {most}");
-            assert_eq!(rt; shelf.faults(), faults, "{name}, {most}");
+            reads(&rt, &mut shelf, (alloc, name, most), want, faults);
         }
         Ok(())
     }

@@ -96,7 +96,22 @@ impl Sink for MemorySink {
 #[cfg(test)]
 mod tests {
     use super::*;
+    use std::process::Abort;
     use std::test::Fail;
+
+    /// The next call ends so, and then this is sent and so many calls have failed.
+    fn puts(
+        rt: &impl Abort,
+        sink: &mut MemorySink,
+        piece: &str,
+        want: Result<(), Failed>,
+        sent: &str,
+        faults: u64,
+    ) {
+        assert_eq!(rt; sink.put(piece.as_bytes()), want);
+        assert_eq!(rt; sink.sent(), sent.as_bytes());
+        assert_eq!(rt; sink.faults(), faults);
+    }
 
     #[test]
     fn calls_that_fail_among_others(rt: HostRuntime) -> Result<(), Fail> {
@@ -107,7 +122,7 @@ mod tests {
             SinkFault { call: 4, taken: 1 },
         ]?;
         let mut sink = MemorySink::new(rt.alloc(), failing);
-        for (piece, want, sent, faults) in [
+        for &(piece, want, sent, faults) in &[
             ("<", Ok(()), "<", 0),
             ("0123456789ab", Err(Failed), "<0123456789", 1),
             (">", Ok(()), "<0123456789>", 1),
@@ -115,9 +130,7 @@ mod tests {
             ("all", Err(Failed), "<0123456789>all", 3),
             ("", Ok(()), "<0123456789>all", 3),
         ] {
-            assert_eq!(rt; sink.put(piece.as_bytes()), want, "{piece}");
-            assert_eq!(rt; sink.sent(), sent.as_bytes(), "{piece}");
-            assert_eq!(rt; sink.faults(), faults, "{piece}");
+            puts(&rt, &mut sink, piece, want, sent, faults);
         }
         Ok(())
     }

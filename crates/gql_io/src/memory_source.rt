@@ -82,7 +82,26 @@ impl Source for MemorySource {
 #[cfg(test)]
 mod tests {
     use super::*;
+    use std::process::Abort;
     use std::test::Fail;
+
+    /// The next call, with room for two bytes or for four, gives these or fails, and then so many calls have failed.
+    fn takes(
+        rt: &impl Abort,
+        source: &mut MemorySource,
+        has_little_room: bool,
+        want: Result<&[u8], Failed>,
+        faults: u64,
+    ) {
+        let mut room = [0; 4];
+        let taken = if has_little_room {
+            source.take(&mut room[..2])
+        } else {
+            source.take(&mut room)
+        };
+        assert_eq!(rt; taken.map(|count| &room[..count.min(4)]), want);
+        assert_eq!(rt; source.faults(), faults);
+    }
 
     #[test]
     fn calls_that_fail_among_others(rt: HostRuntime) -> Result<(), Fail> {
@@ -90,18 +109,15 @@ mod tests {
         let mut bytes = Vec::new(alloc);
         bytes.extend_from_slice(b"1234567")?;
         let mut source = MemorySource::new(bytes, 3, vec![in alloc; 1, 4]?);
-        let mut room = [0; 4];
-        for (most, want, front, faults) in [
-            (4, Ok(3), b"123".as_slice(), 0),
-            (4, Err(Failed), b"123", 1),
-            (2, Ok(2), b"45", 1),
-            (4, Ok(2), b"67", 1),
-            (4, Err(Failed), b"67", 2),
-            (4, Ok(0), b"", 2),
+        for &(has_little_room, want, faults) in &[
+            (false, Ok(b"123".as_slice()), 0),
+            (false, Err(Failed), 1),
+            (true, Ok(b"45"), 1),
+            (false, Ok(b"67"), 1),
+            (false, Err(Failed), 2),
+            (false, Ok(b""), 2),
         ] {
-            assert_eq!(rt; source.take(&mut room[..most]), want, "{most}");
-            assert_eq!(rt; &room[..front.len()], front, "{most}");
-            assert_eq!(rt; source.faults(), faults, "{most}");
+            takes(&rt, &mut source, has_little_room, want, faults);
         }
         Ok(())
     }

@@ -84,7 +84,7 @@ fn write_front<W: Write>(writer: &mut W, bytes: &[u8]) -> io::Result<usize>
 #[cfg(test)]
 mod tests {
     use super::*;
-    use std::test::Fail;
+    use std::process::Abort;
 
     /// Takes three bytes a write, and answers otherwise once, where it holds
     /// so many: by the kind, or by taking nothing.
@@ -119,11 +119,25 @@ mod tests {
         }
     }
 
+    /// The next call ends so, and then the writer holds these bytes and so many calls have failed.
+    fn puts(
+        rt: &impl Abort,
+        sink: &mut StdSink<Choppy>,
+        piece: &[u8],
+        want: Result<(), Failed>,
+        held: &[u8],
+        faults: u64,
+    ) {
+        assert_eq!(rt; sink.put(piece), want);
+        assert_eq!(rt; sink.writer.held.as_slice(), held);
+        assert_eq!(rt; sink.faults(), faults);
+    }
+
     #[test]
     fn pieces_to_a_writer_that_stops(rt: HostRuntime) {
         let reset = Some(ErrorKind::ConnectionReset);
         let interrupted = Some(ErrorKind::Interrupted);
-        for (stops_at, kind, first, held) in [
+        for &(stops_at, kind, first, held) in &[
             (usize::MAX, None, Ok(()), b"12345678".as_slice()),
             (0, None, Err(Failed), b"".as_slice()),
             (4, None, Err(Failed), b"1234".as_slice()),
@@ -136,10 +150,8 @@ mod tests {
                 stops_at,
                 kind,
             });
-            assert_eq!(rt; sink.put(b"12345678"), first, "stops at {stops_at}");
-            assert_eq!(rt; sink.writer.held.as_slice(), held, "stops at {stops_at}");
             let faults = if first.is_ok() { 0 } else { 1 };
-            assert_eq!(rt; sink.faults(), faults, "stops at {stops_at}");
+            puts(&rt, &mut sink, b"12345678", first, held, faults);
         }
     }
 
@@ -150,10 +162,8 @@ mod tests {
             stops_at: 4,
             kind: None,
         });
-        assert_eq!(rt; sink.put(b"123456"), Err(Failed));
-        assert_eq!(rt; sink.put(b"abcde"), Ok(()));
-        assert_eq!(rt; sink.writer.held.as_slice(), b"1234abcde".as_slice());
-        assert_eq!(rt; sink.faults(), 1);
+        puts(&rt, &mut sink, b"123456", Err(Failed), b"1234", 1);
+        puts(&rt, &mut sink, b"abcde", Ok(()), b"1234abcde", 1);
     }
 
     #[test]

@@ -17,15 +17,20 @@ fn fed(alloc: Global, bytes: &[u8], cut: usize) -> Result<Client, Fail> {
     Ok(client)
 }
 
-/// How many cuts a client took of these bytes, and why it refused.
-fn told(alloc: Global, bytes: &[u8], cut: usize) -> Result<String, Fail> {
-    let client = fed(alloc, bytes, cut)?;
+/// How many cuts a client took, and why it refused.
+fn shown(alloc: Global, client: &Client) -> Result<String, Fail> {
     let cuts = client.cuts();
     let reason = match client.reason() {
         Some(reason) => reason.as_str(),
         None => "none",
     };
     Ok(format!(in alloc; "{cuts}|{reason}")?)
+}
+
+/// The same of a client that was fed these bytes.
+fn told(alloc: Global, bytes: &[u8], cut: usize) -> Result<String, Fail> {
+    let client = fed(alloc, bytes, cut)?;
+    shown(alloc, &client)
 }
 
 #[test]
@@ -38,7 +43,7 @@ fn no_boundary(rt: HostRuntime) -> Result<(), Fail> {
 fn counts(rt: HostRuntime) -> Result<(), Fail> {
     let alloc = rt.alloc();
     // A cut that is refused isn't counted.
-    for (bytes, cut, want) in [
+    for &(bytes, cut, want) in &[
         ("---\r\n\r\n{\"data\":{}}\r\n-----", 1, "25|none"),
         ("---\r\n\r\n{\"data\":{}}\r\n-----", 7, "4|none"),
         ("-----", 1, "3|byte 4: BadDelimiter"),

@@ -16,20 +16,30 @@ const DELIVERED: &str =
 /// What a client says behind its answer that has the announced fragment open.
 const KEPT: &str = "|more|1|0|{\"data\":{\"hero\":{\"id\":\"1\"}},\"errors\":[],\"failures\":[]}\n";
 
-/// What a client says of the payload of a text: `Ok` or the refusal's name, whether more comes, how many ids are open,
-/// how many fragments failed, and its report.
-fn said(alloc: Global, merger: &mut Merger, text: &str) -> Result<String, Fail> {
+/// What a client answers to the payload of a text: `Ok` or the refusal's name.
+fn applied(alloc: Global, merger: &mut Merger, text: &str) -> Result<&'static str, Fail> {
     let payload = decode(alloc, text.as_bytes())?;
-    let answer = match merger.apply(&payload) {
-        Ok(()) => "Ok",
-        Err(refusal) => refusal.name(),
-    };
+    match merger.apply(&payload) {
+        Ok(()) => Ok("Ok"),
+        Err(refusal) => Ok(refusal.name()),
+    }
+}
+
+/// Whether more comes, how many ids are open, how many fragments failed, and the report.
+fn shown(alloc: Global, merger: &Merger) -> Result<String, Fail> {
     let next = if merger.has_next() { "more" } else { "end" };
     let open = merger.open_ids().len();
     let failed = merger.failed().len();
     let report = merger.report()?;
     let report = report.as_str();
-    Ok(format!(in alloc; "{answer}|{next}|{open}|{failed}|{report}\n")?)
+    Ok(format!(in alloc; "{next}|{open}|{failed}|{report}")?)
+}
+
+/// What a client says of the payload of a text: its answer, and how it stands then.
+fn said(alloc: Global, merger: &mut Merger, text: &str) -> Result<String, Fail> {
+    let answer = applied(alloc, merger, text)?;
+    let state = shown(alloc, merger)?;
+    Ok(format!(in alloc; "{answer}|{state}\n")?)
 }
 
 /// What a new client says of each text, a line each.
@@ -48,7 +58,7 @@ fn payloads_refused(rt: HostRuntime) -> Result<(), Fail> {
     let alloc = rt.alloc();
     let mut merger = Merger::new(alloc);
     said(alloc, &mut merger, ANNOUNCED)?;
-    for (text, refusal) in [
+    for &(text, refusal) in &[
         (
             "{\"hasNext\":true,\"incremental\":[{\"data\":{\"name\":\"2\"},\"id\":\"9\"}]}",
             "UnknownId",

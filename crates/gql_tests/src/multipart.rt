@@ -35,7 +35,7 @@ fn frames_one_text(rt: HostRuntime) -> Result<(), Fail> {
             "\r\nContent-Type: application/json; charset=utf-8\r\n\r\n{}\r\n---",
         ),
     ];
-    for (first, last, want) in table {
+    for &(first, last, want) in &table {
         let bytes = frame(alloc, b"{}", first, last)?;
         assert_eq!(rt; bytes.as_slice(), want.as_bytes());
     }
@@ -130,7 +130,7 @@ fn reads_edges(rt: HostRuntime) -> Result<(), Fail> {
         ("a", "--a\r\n\r\nx\r\n--ab", "[x]BadDelimiter 14"),
         ("a", "--a\r\n\r\nx\r\n--b", "more"),
     ];
-    for (boundary, bytes, want) in table {
+    for &(boundary, bytes, want) in &table {
         let said = told(alloc, boundary, bytes.as_bytes())?;
         assert_eq!(rt; said.as_slice(), want.as_bytes(), "at {bytes}");
     }
@@ -151,7 +151,7 @@ fn refuses_boundaries(rt: HostRuntime) -> Result<(), Fail> {
         (long, true),
         (longer, false),
     ];
-    for (boundary, want) in table {
+    for &(boundary, want) in &table {
         let found = match Reader::new(alloc, boundary) {
             Ok(_) => true,
             Err(refusal) => {
@@ -226,7 +226,7 @@ fn ends(rt: HostRuntime) -> Result<(), Fail> {
         ("---\r\n\r\nx\r\n-----", ""),
         ("---\r\n\r\nx\r\n-----\r\n", ""),
     ];
-    for (bytes, want) in table {
+    for &(bytes, want) in &table {
         let mut reader = Reader::new(alloc, "-")?;
         reader.feed(bytes.as_bytes())?;
         match reader.finish() {
@@ -240,7 +240,7 @@ fn ends(rt: HostRuntime) -> Result<(), Fail> {
 #[test]
 fn keeps_the_limit_of_blanks(rt: HostRuntime) -> Result<(), Fail> {
     let alloc = rt.alloc();
-    for (count, want) in [(64, "[]more"), (65, "BadDelimiter 68")] {
+    for &(count, want) in &[(64, "[]more"), (65, "BadDelimiter 68")] {
         let bytes = filled(alloc, "---", b' ', count, "\r\n\r\n---")?;
         let said = told(alloc, "-", bytes.as_slice())?;
         assert_eq!(rt; said.as_slice(), want.as_bytes(), "at {count}");
@@ -251,7 +251,7 @@ fn keeps_the_limit_of_blanks(rt: HostRuntime) -> Result<(), Fail> {
 #[test]
 fn keeps_limits(rt: HostRuntime) -> Result<(), Fail> {
     let alloc = rt.alloc();
-    for (front, count, back, want) in [
+    for &(front, count, back, want) in &[
         ("", 16_382, "\r\n---", "more"),
         ("", 16_383, "\r\n---", "BadPreamble 16383"),
         ("", 16_382, "\r\n--x", "BadPreamble 16387"),
@@ -273,7 +273,7 @@ fn keeps_the_limit_of_contents(rt: HostRuntime) -> Result<(), Fail> {
     let alloc = rt.alloc();
     let chunk = filled(alloc, "", b'x', 65_536, "")?;
     let table: [(&str, usize, u64); 2] = [("\r\n---", 67_108_864, 0), ("x", 0, 67_108_872)];
-    for (back, length, byte) in table {
+    for &(back, length, byte) in &table {
         let mut reader = Reader::new(alloc, "-")?;
         reader.feed(b"---\r\n\r\n")?;
         for _ in 0..1024 {

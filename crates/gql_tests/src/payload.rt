@@ -6,6 +6,7 @@ use gql_tree::{
     Bytes, Completed, Content, Entry, Fault, Listed, NoMemory, Payload, Pending, Value,
 };
 use std::alloc::Global;
+use std::process::Abort;
 use std::test::Fail;
 
 fn blank(alloc: Global, has_next: Option<bool>) -> Payload {
@@ -67,45 +68,63 @@ fn failed(alloc: Global) -> Result<Payload, NoMemory> {
     Ok(payload)
 }
 
-/// A later payload with fields below its fragment's path, and with no further items.
-fn continued(alloc: Global) -> Result<Payload, NoMemory> {
-    let mut payload = blank(alloc, Some(true));
-    payload.incremental.push(luke(alloc, "hero")?)?;
-    payload.incremental.push(Entry {
+/// An entry of id 1 with no further items.
+fn no_items(alloc: Global) -> Result<Entry, NoMemory> {
+    Ok(Entry {
         id: text(alloc, "1")?,
         sub_path: path(alloc, "")?,
         content: Content::Items(Listed::new(alloc)),
         errors: Listed::new(alloc),
-    })?;
+    })
+}
+
+/// A later payload with fields below its fragment's path, and with no further items.
+fn continued(alloc: Global) -> Result<Payload, NoMemory> {
+    let mut payload = blank(alloc, Some(true));
+    payload.incremental.push(luke(alloc, "hero")?)?;
+    payload.incremental.push(no_items(alloc)?)?;
     Ok(payload)
 }
 
-#[test]
-fn writes_payloads(rt: HostRuntime) -> Result<(), Fail> {
-    let alloc = rt.alloc();
-    let table = [
-        (
-            announced(alloc),
-            "{\"data\":{\"hero\":{\"id\":\"1\"}},\"hasNext\":true,\"pending\":[{\"id\":\"0\",\"label\":\"D\",\"path\":[\"hero\"]}]}",
-        ),
-        (
-            delivered(alloc),
-            "{\"completed\":[{\"id\":\"0\"}],\"hasNext\":false,\"incremental\":[{\"data\":{\"name\":\"Luke\"},\"id\":\"0\"}]}",
-        ),
-        (
-            failed(alloc),
-            "{\"data\":{\"hero\":null},\"errors\":[{\"locations\":[{\"column\":13,\"line\":1}],\"message\":\"bang\",\"path\":[\"hero\",\"boom\"]}]}",
-        ),
-        (
-            continued(alloc),
-            "{\"hasNext\":true,\"incremental\":[{\"data\":{\"name\":\"Luke\"},\"id\":\"0\",\"subPath\":[\"hero\"]},{\"id\":\"1\",\"items\":[]}]}",
-        ),
-    ];
-    for (payload, want) in table {
-        let bytes = encode(alloc, &payload?)?;
-        assert_eq!(rt; bytes.as_slice(), want.as_bytes());
-    }
+/// The payload is written so.
+fn is_written(rt: &impl Abort, alloc: Global, payload: &Payload, want: &str) -> Result<(), Fail> {
+    let bytes = encode(alloc, payload)?;
+    assert_eq!(rt; bytes.as_slice(), want.as_bytes());
     Ok(())
+}
+
+#[test]
+fn writes_what_is_announced_and_delivered(rt: HostRuntime) -> Result<(), Fail> {
+    let alloc = rt.alloc();
+    is_written(
+        &rt,
+        alloc,
+        &announced(alloc)?,
+        "{\"data\":{\"hero\":{\"id\":\"1\"}},\"hasNext\":true,\"pending\":[{\"id\":\"0\",\"label\":\"D\",\"path\":[\"hero\"]}]}",
+    )?;
+    is_written(
+        &rt,
+        alloc,
+        &delivered(alloc)?,
+        "{\"completed\":[{\"id\":\"0\"}],\"hasNext\":false,\"incremental\":[{\"data\":{\"name\":\"Luke\"},\"id\":\"0\"}]}",
+    )
+}
+
+#[test]
+fn writes_what_failed_and_goes_on(rt: HostRuntime) -> Result<(), Fail> {
+    let alloc = rt.alloc();
+    is_written(
+        &rt,
+        alloc,
+        &failed(alloc)?,
+        "{\"data\":{\"hero\":null},\"errors\":[{\"locations\":[{\"column\":13,\"line\":1}],\"message\":\"bang\",\"path\":[\"hero\",\"boom\"]}]}",
+    )?;
+    is_written(
+        &rt,
+        alloc,
+        &continued(alloc)?,
+        "{\"hasNext\":true,\"incremental\":[{\"data\":{\"name\":\"Luke\"},\"id\":\"0\",\"subPath\":[\"hero\"]},{\"id\":\"1\",\"items\":[]}]}",
+    )
 }
 
 /// The text of the payload that the bytes are, or the name of why they are none.
@@ -116,10 +135,19 @@ fn read_and_written(alloc: Global, bytes: &[u8]) -> Result<Bytes, NoMemory> {
     }
 }
 
+/// Each text is read, and written as what stands beside it, or refused by that name.
+fn each_read(rt: &impl Abort, alloc: Global, table: &[(&[u8], &str)]) -> Result<(), Fail> {
+    for &(bytes, want) in table {
+        let told = read_and_written(alloc, bytes)?;
+        assert_eq!(rt; told.as_slice(), want.as_bytes());
+    }
+    Ok(())
+}
+
 #[test]
 fn reads_payloads(rt: HostRuntime) -> Result<(), Fail> {
     let alloc = rt.alloc();
-    for same in [
+    for &same in &[
         "{}",
         "{\"data\":{}}",
         "{\"data\":null}",
@@ -137,157 +165,146 @@ fn reads_payloads(rt: HostRuntime) -> Result<(), Fail> {
 
 #[test]
 fn reads_what_others_write(rt: HostRuntime) -> Result<(), Fail> {
-    let alloc = rt.alloc();
-    for (text, want) in [
-        (
-            " {\"pending\":null, \"errors\":[],\n\"hasNext\":null,\"x\":[1.5],\"extensions\":{\"y\":-0}} ",
-            "{}",
-        ),
-        (
-            "{\"hasNext\":true,\"data\":{\"a\":1,\"a\":2},\"hasNext\":false}",
-            "{\"data\":{\"a\":2},\"hasNext\":false}",
-        ),
-        (
-            "{\"pending\":[{\"path\":[],\"label\":null,\"id\":\"0\",\"extensions\":1.5}]}",
-            "{\"pending\":[{\"id\":\"0\",\"path\":[]}]}",
-        ),
-        (
-            "{\"errors\":[{\"message\":\"m\",\"locations\":null,\"path\":null},{\"message\":\"n\",\"locations\":[],\"path\":[]}]}",
-            "{\"errors\":[{\"message\":\"m\"},{\"message\":\"n\",\"path\":[]}]}",
-        ),
-        (
-            "{\"errors\":[{\"message\":\"m\",\"locations\":[{\"line\":1,\"column\":2,\"z\":0},{\"line\":0}],\"extensions\":1e2}]}",
-            "{\"errors\":[{\"locations\":[{\"column\":2,\"line\":1}],\"message\":\"m\"}]}",
-        ),
-        (
-            "{\"incremental\":[{\"id\":\"0\",\"items\":[1],\"errors\":null,\"subPath\":null}],\"completed\":[{\"id\":\"0\",\"errors\":[]}]}",
-            "{\"completed\":[{\"id\":\"0\"}],\"incremental\":[{\"id\":\"0\",\"items\":[1]}]}",
-        ),
-    ] {
-        let written = read_and_written(alloc, text.as_bytes())?;
-        assert_eq!(rt; written.as_slice(), want.as_bytes());
-    }
-    Ok(())
+    each_read(
+        &rt,
+        rt.alloc(),
+        &[
+            (
+                b" {\"pending\":null, \"errors\":[],\n\"hasNext\":null,\"x\":[1.5],\"extensions\":{\"y\":-0}} ",
+                "{}",
+            ),
+            (
+                b"{\"hasNext\":true,\"data\":{\"a\":1,\"a\":2},\"hasNext\":false}",
+                "{\"data\":{\"a\":2},\"hasNext\":false}",
+            ),
+            (
+                b"{\"pending\":[{\"path\":[],\"label\":null,\"id\":\"0\",\"extensions\":1.5}]}",
+                "{\"pending\":[{\"id\":\"0\",\"path\":[]}]}",
+            ),
+            (
+                b"{\"errors\":[{\"message\":\"m\",\"locations\":null,\"path\":null},{\"message\":\"n\",\"locations\":[],\"path\":[]}]}",
+                "{\"errors\":[{\"message\":\"m\"},{\"message\":\"n\",\"path\":[]}]}",
+            ),
+            (
+                b"{\"errors\":[{\"message\":\"m\",\"locations\":[{\"line\":1,\"column\":2,\"z\":0},{\"line\":0}],\"extensions\":1e2}]}",
+                "{\"errors\":[{\"locations\":[{\"column\":2,\"line\":1}],\"message\":\"m\"}]}",
+            ),
+            (
+                b"{\"incremental\":[{\"id\":\"0\",\"items\":[1],\"errors\":null,\"subPath\":null}],\"completed\":[{\"id\":\"0\",\"errors\":[]}]}",
+                "{\"completed\":[{\"id\":\"0\"}],\"incremental\":[{\"id\":\"0\",\"items\":[1]}]}",
+            ),
+        ],
+    )
 }
 
 #[test]
 fn refuses_what_is_no_object(rt: HostRuntime) -> Result<(), Fail> {
-    let alloc = rt.alloc();
-    for (bytes, want) in [
-        (b"".as_slice(), "NotJson"),
-        (b"\xff", "NotJson"),
-        (b"{\"x\":\"\xff\"}", "NotJson"),
-        (b"\xef\xbb\xbf{}", "NotJson"),
-        (b"{\"x\":1e400}", "NotJson"),
-        (b"{\"x\":\"\\ud800\"}", "NotJson"),
-        (b"{} {}", "NotJson"),
-        (b"[]", "NotAnObject"),
-        (b"null", "NotAnObject"),
-    ] {
-        let told = read_and_written(alloc, bytes)?;
-        assert_eq!(rt; told.as_slice(), want.as_bytes());
-    }
-    Ok(())
+    each_read(
+        &rt,
+        rt.alloc(),
+        &[
+            (b"", "NotJson"),
+            (b"\xff", "NotJson"),
+            (b"{\"x\":\"\xff\"}", "NotJson"),
+            (b"\xef\xbb\xbf{}", "NotJson"),
+            (b"{\"x\":1e400}", "NotJson"),
+            (b"{\"x\":\"\\ud800\"}", "NotJson"),
+            (b"{} {}", "NotJson"),
+            (b"[]", "NotAnObject"),
+            (b"null", "NotAnObject"),
+        ],
+    )
 }
 
 #[test]
 fn refuses_wrong_members_of_the_first_payload(rt: HostRuntime) -> Result<(), Fail> {
-    let alloc = rt.alloc();
-    for (bytes, want) in [
-        (b"{\"data\":[],\"errors\":1}".as_slice(), "Wrong data"),
-        (b"{\"data\":{\"a\":-0}}", "Wrong data"),
-        (b"{\"data\":{\"a\":[1.0]}}", "Wrong data"),
-        (b"{\"data\":{\"a\":9223372036854775808}}", "Wrong data"),
-        (b"{\"errors\":{},\"hasNext\":1}", "Wrong errors"),
-        (b"{\"errors\":[{\"message\":null}]}", "Wrong errors"),
-        (
-            b"{\"errors\":[{\"message\":\"m\",\"path\":[-1]}]}",
-            "Wrong errors",
-        ),
-        (
-            b"{\"errors\":[{\"message\":\"m\",\"path\":[4294967296]}]}",
-            "Wrong errors",
-        ),
-        (
-            b"{\"errors\":[{\"message\":\"m\",\"locations\":{}}]}",
-            "Wrong errors",
-        ),
-        (
-            b"{\"errors\":[{\"message\":\"m\",\"locations\":[{\"line\":1}]}]}",
-            "Wrong errors",
-        ),
-        (
-            b"{\"errors\":[{\"message\":\"m\",\"locations\":[{\"line\":0,\"column\":1}]}]}",
-            "Wrong errors",
-        ),
-        (
-            b"{\"errors\":[{\"message\":\"m\",\"locations\":[{\"line\":1.0,\"column\":1}]}]}",
-            "Wrong errors",
-        ),
-    ] {
-        let told = read_and_written(alloc, bytes)?;
-        assert_eq!(rt; told.as_slice(), want.as_bytes());
-    }
-    Ok(())
+    each_read(
+        &rt,
+        rt.alloc(),
+        &[
+            (b"{\"data\":[],\"errors\":1}", "Wrong data"),
+            (b"{\"data\":{\"a\":-0}}", "Wrong data"),
+            (b"{\"data\":{\"a\":[1.0]}}", "Wrong data"),
+            (b"{\"data\":{\"a\":9223372036854775808}}", "Wrong data"),
+            (b"{\"errors\":{},\"hasNext\":1}", "Wrong errors"),
+            (b"{\"errors\":[{\"message\":null}]}", "Wrong errors"),
+            (
+                b"{\"errors\":[{\"message\":\"m\",\"path\":[-1]}]}",
+                "Wrong errors",
+            ),
+            (
+                b"{\"errors\":[{\"message\":\"m\",\"path\":[4294967296]}]}",
+                "Wrong errors",
+            ),
+            (
+                b"{\"errors\":[{\"message\":\"m\",\"locations\":{}}]}",
+                "Wrong errors",
+            ),
+            (
+                b"{\"errors\":[{\"message\":\"m\",\"locations\":[{\"line\":1}]}]}",
+                "Wrong errors",
+            ),
+            (
+                b"{\"errors\":[{\"message\":\"m\",\"locations\":[{\"line\":0,\"column\":1}]}]}",
+                "Wrong errors",
+            ),
+            (
+                b"{\"errors\":[{\"message\":\"m\",\"locations\":[{\"line\":1.0,\"column\":1}]}]}",
+                "Wrong errors",
+            ),
+        ],
+    )
 }
 
 #[test]
 fn refuses_wrong_members_of_every_payload(rt: HostRuntime) -> Result<(), Fail> {
-    let alloc = rt.alloc();
-    for (bytes, want) in [
-        (
-            b"{\"pending\":1,\"completed\":{}}".as_slice(),
-            "Wrong completed",
-        ),
-        (b"{\"completed\":[{}]}", "Wrong completed"),
-        (b"{\"completed\":[{\"id\":0}]}", "Wrong completed"),
-        (
-            b"{\"completed\":[{\"id\":\"0\",\"errors\":[1]}]}",
-            "Wrong completed",
-        ),
-        (b"{\"hasNext\":0,\"incremental\":0}", "Wrong hasNext"),
-        (b"{\"pending\":[{\"id\":\"0\"}]}", "Wrong pending"),
-        (
-            b"{\"pending\":[{\"id\":\"0\",\"path\":[],\"label\":5}]}",
-            "Wrong pending",
-        ),
-    ] {
-        let told = read_and_written(alloc, bytes)?;
-        assert_eq!(rt; told.as_slice(), want.as_bytes());
-    }
-    Ok(())
+    each_read(
+        &rt,
+        rt.alloc(),
+        &[
+            (b"{\"pending\":1,\"completed\":{}}", "Wrong completed"),
+            (b"{\"completed\":[{}]}", "Wrong completed"),
+            (b"{\"completed\":[{\"id\":0}]}", "Wrong completed"),
+            (
+                b"{\"completed\":[{\"id\":\"0\",\"errors\":[1]}]}",
+                "Wrong completed",
+            ),
+            (b"{\"hasNext\":0,\"incremental\":0}", "Wrong hasNext"),
+            (b"{\"pending\":[{\"id\":\"0\"}]}", "Wrong pending"),
+            (
+                b"{\"pending\":[{\"id\":\"0\",\"path\":[],\"label\":5}]}",
+                "Wrong pending",
+            ),
+        ],
+    )
 }
 
 #[test]
 fn refuses_wrong_entries(rt: HostRuntime) -> Result<(), Fail> {
-    let alloc = rt.alloc();
-    for (bytes, want) in [
-        (
-            b"{\"incremental\":{},\"pending\":0}".as_slice(),
-            "Wrong incremental",
-        ),
-        (b"{\"incremental\":[{\"id\":\"0\"}]}", "Wrong incremental"),
-        (
-            b"{\"incremental\":[{\"id\":\"0\",\"data\":null}]}",
-            "Wrong incremental",
-        ),
-        (
-            b"{\"incremental\":[{\"id\":\"0\",\"data\":{},\"items\":[]}]}",
-            "Wrong incremental",
-        ),
-        (
-            b"{\"incremental\":[{\"id\":\"0\",\"items\":[0.5]}]}",
-            "Wrong incremental",
-        ),
-        (
-            b"{\"incremental\":[{\"id\":\"0\",\"data\":{},\"subPath\":[null]}]}",
-            "Wrong incremental",
-        ),
-    ] {
-        let told = read_and_written(alloc, bytes)?;
-        assert_eq!(rt; told.as_slice(), want.as_bytes());
-    }
-    Ok(())
+    each_read(
+        &rt,
+        rt.alloc(),
+        &[
+            (b"{\"incremental\":{},\"pending\":0}", "Wrong incremental"),
+            (b"{\"incremental\":[{\"id\":\"0\"}]}", "Wrong incremental"),
+            (
+                b"{\"incremental\":[{\"id\":\"0\",\"data\":null}]}",
+                "Wrong incremental",
+            ),
+            (
+                b"{\"incremental\":[{\"id\":\"0\",\"data\":{},\"items\":[]}]}",
+                "Wrong incremental",
+            ),
+            (
+                b"{\"incremental\":[{\"id\":\"0\",\"items\":[0.5]}]}",
+                "Wrong incremental",
+            ),
+            (
+                b"{\"incremental\":[{\"id\":\"0\",\"data\":{},\"subPath\":[null]}]}",
+                "Wrong incremental",
+            ),
+        ],
+    )
 }
 
 /// An object with an unknown member: a list in a list, and so on, so many deep.
@@ -306,7 +323,7 @@ fn nested(alloc: Global, lists: u32) -> Result<String, Fail> {
 #[test]
 fn nests_at_most_127_deep(rt: HostRuntime) -> Result<(), Fail> {
     let alloc = rt.alloc();
-    for (lists, want) in [(126, "{}"), (127, "NotJson")] {
+    for &(lists, want) in &[(126, "{}"), (127, "NotJson")] {
         let text = nested(alloc, lists)?;
         let told = read_and_written(alloc, text.as_str().as_bytes())?;
         assert_eq!(rt; told.as_slice(), want.as_bytes());

@@ -36,7 +36,7 @@ fn json_at(alloc: Global, value: &Value, words: &str) -> Result<Option<Text>, No
 #[test]
 fn values_at_paths(rt: HostRuntime) -> Result<(), Fail> {
     let value = hero(rt.alloc())?;
-    for (words, expected) in [
+    for &(words, expected) in &[
         ("", Some("{\"hero\":[{\"a\":97,\"b\":98}]}")),
         ("hero/0", Some("{\"a\":97,\"b\":98}")),
         ("hero/0/b", Some("98")),
@@ -58,7 +58,7 @@ fn values_at_paths(rt: HostRuntime) -> Result<(), Fail> {
 
 #[test]
 fn equal_up_to_key_order(rt: HostRuntime) -> Result<(), Fail> {
-    for (first, second, expected) in [
+    for &(first, second, expected) in &[
         ("a b", "b a", true),
         ("a b", "a", false),
         ("a", "a b", false),
@@ -93,7 +93,7 @@ fn paths_in_order(rt: HostRuntime) -> Result<(), Fail> {
 #[test]
 fn a_name_stands_once(rt: HostRuntime) -> Result<(), Fail> {
     let mut fields = Fields::new(rt.alloc());
-    for (name, number) in [("b", 1), ("a", 2), ("b", 3)] {
+    for &(name, number) in &[("b", 1), ("a", 2), ("b", 3)] {
         fields.insert(text(rt.alloc(), name)?, Value::Int(number))?;
     }
     assert!(rt; matches!(fields.get("a"), Some(Value::Int(2))));

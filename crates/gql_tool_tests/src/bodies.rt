@@ -4,6 +4,7 @@ use crate::running::{Ending, NO_FAULT, run};
 use gql_io::{MemoryShelf, MemorySource};
 use gql_multipart::frame;
 use std::alloc::Global;
+use std::process::Abort;
 use std::test::Fail;
 
 const ANNOUNCED: &str =
@@ -58,10 +59,28 @@ fn expected(alloc: Global, reason: &str, report: &str) -> Result<String, Fail> {
     Ok(format!(in alloc; "6|0|refused {reason}\nmerged {report}\n")?)
 }
 
+/// The replay of these texts is taken, or refused for a reason, with this report.
+fn is_replayed(
+    rt: &impl Abort,
+    alloc: Global,
+    texts: &[&str],
+    step: usize,
+    reason: &str,
+    report: &str,
+) -> Result<(), Fail> {
+    let bytes = body(alloc, texts)?;
+    let want = expected(alloc, reason, report)?;
+    assert_eq!(rt;
+        told(alloc, bytes.as_slice(), step)?.as_str(),
+        want.as_str()
+    );
+    Ok(())
+}
+
 #[test]
 fn second_payloads(rt: HostRuntime) -> Result<(), Fail> {
     let alloc = rt.alloc();
-    for (second, reason, report) in [
+    for &(second, reason, report) in &[
         (DELIVERED, "taken", WHOLE),
         (
             "{\"hasNext\":false,\"incremental\":[{\"data\":{\"name\":\"X\"},\"id\":\"9\"}]}",
@@ -104,9 +123,7 @@ fn second_payloads(rt: HostRuntime) -> Result<(), Fail> {
         ("{", "payload 1: NotJson", FIRST),
         ("{\"hasNext\":true}", "end: NotFinished", FIRST),
     ] {
-        let bytes = body(alloc, &[ANNOUNCED, second])?;
-        let want = expected(alloc, reason, report)?;
-        assert_eq!(rt; told(alloc, bytes.as_slice(), 7)?.as_str(), want.as_str());
+        is_replayed(&rt, alloc, &[ANNOUNCED, second], 7, reason, report)?;
     }
     Ok(())
 }
@@ -120,7 +137,7 @@ const NULL: &str = "{\"data\":null,\"hasNext\":true,\"pending\":[{\"id\":\"0\",\
 #[test]
 fn first_payloads(rt: HostRuntime) -> Result<(), Fail> {
     let alloc = rt.alloc();
-    for (text, reason, report) in [
+    for &(text, reason, report) in &[
         ("{\"hasNext\":true}", "payload 0: BadInitial", "none"),
         (
             "{\"data\":{},\"hasNext\":true,\"pending\":[{\"id\":\"0\",\"path\":[]},{\"id\":\"0\",\"path\":[]}]}",
@@ -134,12 +151,7 @@ fn first_payloads(rt: HostRuntime) -> Result<(), Fail> {
             "{\"data\":null,\"errors\":[{\"message\":\"x\"}],\"failures\":[]}",
         ),
     ] {
-        let bytes = body(alloc, &[text])?;
-        let want = expected(alloc, reason, report)?;
-        assert_eq!(rt;
-            told(alloc, bytes.as_slice(), 1_048_576)?.as_str(),
-            want.as_str()
-        );
+        is_replayed(&rt, alloc, &[text], 1_048_576, reason, report)?;
     }
     Ok(())
 }
@@ -148,33 +160,26 @@ fn first_payloads(rt: HostRuntime) -> Result<(), Fail> {
 fn an_entry_below_null(rt: HostRuntime) -> Result<(), Fail> {
     let alloc = rt.alloc();
     let entry = "{\"hasNext\":true,\"incremental\":[{\"data\":{},\"id\":\"0\"}]}";
-    let bytes = body(alloc, &[NULL, entry])?;
-    let want = expected(
+    is_replayed(
+        &rt,
         alloc,
+        &[NULL, entry],
+        1_048_576,
         "payload 1: NoSuchPlace",
         "{\"data\":null,\"errors\":[],\"failures\":[]}",
-    )?;
-    assert_eq!(rt;
-        told(alloc, bytes.as_slice(), 1_048_576)?.as_str(),
-        want.as_str()
-    );
-    Ok(())
+    )
 }
 
 #[test]
 fn third_payloads(rt: HostRuntime) -> Result<(), Fail> {
     let alloc = rt.alloc();
     let ended = "{\"completed\":[{\"id\":\"0\"}],\"hasNext\":true}";
-    for (second, reason, report) in [
+    for &(second, reason, report) in &[
         (DELIVERED, "payload 2: AfterEnd", WHOLE),
         (ended, "payload 2: UnknownId", FIRST),
     ] {
-        let bytes = body(alloc, &[ANNOUNCED, second, DELIVERED])?;
-        let want = expected(alloc, reason, report)?;
-        assert_eq!(rt;
-            told(alloc, bytes.as_slice(), 1_048_576)?.as_str(),
-            want.as_str()
-        );
+        let texts = [ANNOUNCED, second, DELIVERED];
+        is_replayed(&rt, alloc, &texts, 1_048_576, reason, report)?;
     }
     Ok(())
 }
@@ -184,7 +189,7 @@ fn fronts_and_cuttings(rt: HostRuntime) -> Result<(), Fail> {
     let alloc = rt.alloc();
     let bytes = body(alloc, &[ANNOUNCED, DELIVERED])?;
     assert_eq!(rt; bytes.len(), 305);
-    for (length, reason, report) in [
+    for &(length, reason, report) in &[
         (0, "end: Truncated", "none"),
         (153, "end: Truncated", FIRST),
         (302, "end: Truncated", WHOLE),
@@ -193,7 +198,7 @@ fn fronts_and_cuttings(rt: HostRuntime) -> Result<(), Fail> {
         (305, "taken", WHOLE),
     ] {
         let want = expected(alloc, reason, report)?;
-        for cut in [1, 2, 7, 1_048_576] {
+        for &cut in &[1, 2, 7, 1_048_576] {
             assert_eq!(rt;
                 told(alloc, &bytes[..length.min(bytes.len())], cut)?.as_str(),
                 want.as_str()
@@ -244,7 +249,7 @@ fn every_front_of_three_parts(rt: HostRuntime) -> Result<(), Fail> {
 fn what_is_replayed(rt: HostRuntime) -> Result<(), Fail> {
     let alloc = rt.alloc();
     // A command line, an input, and what is told.
-    for (line, bytes, told) in [
+    for &(line, bytes, told) in &[
         (
             "replay ",
             "",
@@ -291,7 +296,7 @@ fn what_is_replayed(rt: HostRuntime) -> Result<(), Fail> {
 fn what_stops_a_replay(rt: HostRuntime) -> Result<(), Fail> {
     let alloc = rt.alloc();
     // The call of the input that fails.
-    for fails in [0, 1] {
+    for &fails in &[0, 1] {
         let end = replayed(
             alloc,
             "replay -",
@@ -323,17 +328,13 @@ fn a_thousand_open_ids(rt: HostRuntime) -> Result<(), Fail> {
     let first = format!(in alloc; "{{\"data\":{{}},\"hasNext\":true,\"pending\":[{pending}]}}")?;
     let last = format!(in alloc; "{{\"completed\":[{completed}],\"hasNext\":false}}")?;
     let merged = "{\"data\":{},\"errors\":[],\"failures\":[]}";
-    for (second, reason) in [
+    for &(second, reason) in &[
         (last.as_str(), "taken"),
         ("{\"hasNext\":false}", "payload 1: OpenAtEnd"),
         ("{\"hasNext\":true}", "end: NotFinished"),
     ] {
-        let bytes = body(alloc, &[first.as_str(), second])?;
-        let want = expected(alloc, reason, merged)?;
-        assert_eq!(rt;
-            told(alloc, bytes.as_slice(), 65_536)?.as_str(),
-            want.as_str()
-        );
+        let texts = [first.as_str(), second];
+        is_replayed(&rt, alloc, &texts, 65_536, reason, merged)?;
     }
     Ok(())
 }

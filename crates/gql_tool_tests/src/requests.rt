@@ -35,7 +35,7 @@ fn ended(alloc: Global, line: &str, read_fails: u64, put_fails: u64) -> Result<S
 #[test]
 fn which_command_lines_are_none(rt: HostRuntime) -> Result<(), Fail> {
     let alloc = rt.alloc();
-    for line in [
+    for &line in &[
         "",
         " ",
         "local",
@@ -58,7 +58,7 @@ fn which_command_lines_are_none(rt: HostRuntime) -> Result<(), Fail> {
 fn how_each_command_line_ends(rt: HostRuntime) -> Result<(), Fail> {
     let alloc = rt.alloc();
     // A command line, the calls of the shelf and of the sink that fail, and what is told.
-    for (line, read_fails, put_fails, told) in [
+    for &(line, read_fails, put_fails, told) in &[
         ("local s t d - 0 7", 9, 9, NOT_BUILT),
         ("local s t d - 0 1048576", 9, 9, NOT_BUILT),
         ("local s t x - 0 7", 9, 9, "7|0|no such file: x\n"),
@@ -83,7 +83,7 @@ fn answered(alloc: Global, line: &str, document: &[u8], fault: SinkFault) -> Res
 #[test]
 fn what_each_document_is_answered(rt: HostRuntime) -> Result<(), Fail> {
     let alloc = rt.alloc();
-    for (document, told) in [
+    for &(document, told) in &[
         (LATE_NAME, LATE_NAME_ANSWER),
         (
             b"{ hero { id } }",
@@ -116,7 +116,7 @@ fn what_each_document_is_answered(rt: HostRuntime) -> Result<(), Fail> {
 #[test]
 fn which_documents_are_not_built(rt: HostRuntime) -> Result<(), Fail> {
     let alloc = rt.alloc();
-    for document in [
+    for &document in &[
         "{ hero }",
         "{ crew { id } }",
         "{ hero { idname } }",
@@ -177,7 +177,7 @@ fn refusal(alloc: Global, name: &str, line: u32, column: u32) -> Result<String, 
 #[test]
 fn where_a_text_is_no_document(rt: HostRuntime) -> Result<(), Fail> {
     let alloc = rt.alloc();
-    for (document, name, line, column) in [
+    for &(document, name, line, column) in &[
         ("", "Unexpected", 1, 1),
         ("{ hero {", "Unexpected", 1, 9),
         ("{ hero { } }", "Unexpected", 1, 10),
@@ -205,7 +205,7 @@ fn where_a_text_is_no_document(rt: HostRuntime) -> Result<(), Fail> {
 fn how_deep_and_how_long_a_document_is(rt: HostRuntime) -> Result<(), Fail> {
     let alloc = rt.alloc();
     let deep = refusal(alloc, "TooDeep", 1, 257)?;
-    for (depth, want) in [(128, NOT_BUILT), (129, deep.as_str())] {
+    for &(depth, want) in &[(128, NOT_BUILT), (129, deep.as_str())] {
         let mut document = "{a".repeat(alloc, depth)?;
         let closing = "}".repeat(alloc, depth)?;
         document.push_str(closing.as_str())?;
@@ -223,7 +223,7 @@ fn how_often_the_client_is_fed(rt: HostRuntime) -> Result<(), Fail> {
     let alloc = rt.alloc();
     let (_, answer) = LATE_NAME_ANSWER.split_at(5);
     // Each piece is cut by itself, so that 153 and 152 bytes make 22 cuts of 7 bytes each.
-    for (line, front) in [
+    for &(line, front) in &[
         ("local s t d - 0 1", "0|305|---"),
         ("local s t d - 0 2", "0|153|---"),
         ("local s t d - 0 3", "0|102|---"),
@@ -242,7 +242,7 @@ fn what_stops_an_answer(rt: HostRuntime) -> Result<(), Fail> {
     let alloc = rt.alloc();
     // The call of the sink that fails and the bytes that it takes, what is told before the output, and how many bytes
     // of the answer are written.
-    for (call, taken, before, length) in [
+    for &(call, taken, before, length) in &[
         (0, 0, "4|0|", 0),
         (1, 10, "4|22|", 163),
         (2, 9, "4|44|", 314),

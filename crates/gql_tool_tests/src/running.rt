@@ -47,7 +47,7 @@ pub(crate) fn files(
     document: &[u8],
 ) -> Result<Vec<ShelfFile>, NoMemory> {
     let mut files = Vec::new(alloc);
-    for (name, bytes) in [("s", schema), ("t", tables), ("d", document)] {
+    for &(name, bytes) in &[("s", schema), ("t", tables), ("d", document)] {
         files.push(ShelfFile {
             name: Text::copy_of(alloc, name)?,
             bytes: Bytes::copy_of(alloc, bytes)?,

@@ -166,7 +166,7 @@ fn which_tables_are_read(rt: HostRuntime) -> Result<(), Fail> {
 fn what_the_example_says_of_each_hero(rt: HostRuntime) -> Result<(), Fail> {
     let alloc = rt.alloc();
     // The id that `hero` refers to, the document, and what is merged.
-    for (id, document, merged) in [
+    for &(id, document, merged) in &[
         (
             "1",
             "{ hero { id name age } }",

@@ -5,6 +5,7 @@ use gql_doc::{ParseRefusal, parse};
 use gql_lex::LexRefusal;
 use gql_tree::Spot;
 use std::alloc::Global;
+use std::process::Abort;
 use std::test::Fail;
 
 /// A refusal's name, and its place where it has one.
@@ -21,6 +22,15 @@ pub(crate) fn shown(alloc: Global, text: &str) -> Result<String, Fail> {
         Ok(_) => Ok(format!(in alloc; "ok")?),
         Err(refusal) => refusal_shown(alloc, refusal),
     }
+}
+
+/// Each text is shown as it stands beside it.
+fn each_shown(rt: &impl Abort, alloc: Global, table: &[(&str, &str)]) -> Result<(), Fail> {
+    for &(text, want) in table {
+        let got = shown(alloc, text)?;
+        assert_eq!(rt; got.as_str(), want, "{text}");
+    }
+    Ok(())
 }
 
 #[test]
@@ -66,7 +76,7 @@ fn documents(rt: HostRuntime) -> Result<(), Fail> {
         " \t\r\n{\ra\n}\r\n",
         "{a(b:\"\"\"\n c\n\n  \\\"\"\" \u{e9}\n\"\"\")}",
     ];
-    for text in table {
+    for &text in &table {
         let got = shown(alloc, text)?;
         assert_eq!(rt; got.as_str(), "ok", "{text}");
     }
@@ -75,190 +85,176 @@ fn documents(rt: HostRuntime) -> Result<(), Fail> {
 
 #[test]
 fn selections_refused(rt: HostRuntime) -> Result<(), Fail> {
-    let alloc = rt.alloc();
-    let table = [
-        ("{", "Unexpected 1:2"),
-        ("{}", "Unexpected 1:2"),
-        ("{{a}}", "Unexpected 1:2"),
-        ("{1}", "Unexpected 1:2"),
-        ("{@a}", "Unexpected 1:2"),
-        ("{a", "Unexpected 1:3"),
-        ("{a|b}", "Unexpected 1:3"),
-        ("{a{}}", "Unexpected 1:4"),
-        ("{a:}", "Unexpected 1:4"),
-        ("{a:1}", "Unexpected 1:4"),
-        ("{a:b:c}", "Unexpected 1:5"),
-    ];
-    for (text, want) in table {
-        let got = shown(alloc, text)?;
-        assert_eq!(rt; got.as_str(), want, "{text}");
-    }
-    Ok(())
+    each_shown(
+        &rt,
+        rt.alloc(),
+        &[
+            ("{", "Unexpected 1:2"),
+            ("{}", "Unexpected 1:2"),
+            ("{{a}}", "Unexpected 1:2"),
+            ("{1}", "Unexpected 1:2"),
+            ("{@a}", "Unexpected 1:2"),
+            ("{a", "Unexpected 1:3"),
+            ("{a|b}", "Unexpected 1:3"),
+            ("{a{}}", "Unexpected 1:4"),
+            ("{a:}", "Unexpected 1:4"),
+            ("{a:1}", "Unexpected 1:4"),
+            ("{a:b:c}", "Unexpected 1:5"),
+        ],
+    )
 }
 
 #[test]
 fn arguments_refused(rt: HostRuntime) -> Result<(), Fail> {
-    let alloc = rt.alloc();
-    let table = [
-        ("{a(", "Unexpected 1:4"),
-        ("{a()}", "Unexpected 1:4"),
-        ("{a(1:b)}", "Unexpected 1:4"),
-        ("{a(b)}", "Unexpected 1:5"),
-        ("{a(b 1)}", "Unexpected 1:6"),
-        ("{a(b:)}", "Unexpected 1:6"),
-        ("{a(b:!)}", "Unexpected 1:6"),
-        ("{a(b:1", "Unexpected 1:7"),
-        ("{a(b:1}", "Unexpected 1:7"),
-        ("{a(b:1)(c:2)}", "Unexpected 1:8"),
-        ("{a(b:$)}", "Unexpected 1:7"),
-        ("{a(b:$1)}", "Unexpected 1:7"),
-        ("{a(b:[", "Unexpected 1:7"),
-        ("{a(b:[1)}", "Unexpected 1:8"),
-        ("{a(b:{", "Unexpected 1:7"),
-        ("{a(b:{1:2})}", "Unexpected 1:7"),
-        ("{a(b:{c})}", "Unexpected 1:8"),
-        ("{a(b:{c:})}", "Unexpected 1:9"),
-    ];
-    for (text, want) in table {
-        let got = shown(alloc, text)?;
-        assert_eq!(rt; got.as_str(), want, "{text}");
-    }
-    Ok(())
+    each_shown(
+        &rt,
+        rt.alloc(),
+        &[
+            ("{a(", "Unexpected 1:4"),
+            ("{a()}", "Unexpected 1:4"),
+            ("{a(1:b)}", "Unexpected 1:4"),
+            ("{a(b)}", "Unexpected 1:5"),
+            ("{a(b 1)}", "Unexpected 1:6"),
+            ("{a(b:)}", "Unexpected 1:6"),
+            ("{a(b:!)}", "Unexpected 1:6"),
+            ("{a(b:1", "Unexpected 1:7"),
+            ("{a(b:1}", "Unexpected 1:7"),
+            ("{a(b:1)(c:2)}", "Unexpected 1:8"),
+            ("{a(b:$)}", "Unexpected 1:7"),
+            ("{a(b:$1)}", "Unexpected 1:7"),
+            ("{a(b:[", "Unexpected 1:7"),
+            ("{a(b:[1)}", "Unexpected 1:8"),
+            ("{a(b:{", "Unexpected 1:7"),
+            ("{a(b:{1:2})}", "Unexpected 1:7"),
+            ("{a(b:{c})}", "Unexpected 1:8"),
+            ("{a(b:{c:})}", "Unexpected 1:9"),
+        ],
+    )
 }
 
 #[test]
 fn directives_and_spreads_refused(rt: HostRuntime) -> Result<(), Fail> {
-    let alloc = rt.alloc();
-    let table = [
-        ("{a@}", "Unexpected 1:4"),
-        ("{a@b()}", "Unexpected 1:6"),
-        ("{a@b@", "Unexpected 1:6"),
-        ("{a@b(c:1", "Unexpected 1:9"),
-        ("{...", "Unexpected 1:5"),
-        ("{...}", "Unexpected 1:5"),
-        ("{...1}", "Unexpected 1:5"),
-        ("{...F{a}}", "Unexpected 1:6"),
-        ("{...F(a:1)}", "Unexpected 1:6"),
-        ("{...on}", "Unexpected 1:7"),
-        ("{...on{a}}", "Unexpected 1:7"),
-        ("{...on T}", "Unexpected 1:9"),
-        ("{...on T{}}", "Unexpected 1:10"),
-        ("{...@d}", "Unexpected 1:7"),
-        ("{\n a\n  }\n}", "Unexpected 4:1"),
-        ("{\r\n a(\r)}", "Unexpected 3:1"),
-    ];
-    for (text, want) in table {
-        let got = shown(alloc, text)?;
-        assert_eq!(rt; got.as_str(), want, "{text}");
-    }
-    Ok(())
+    each_shown(
+        &rt,
+        rt.alloc(),
+        &[
+            ("{a@}", "Unexpected 1:4"),
+            ("{a@b()}", "Unexpected 1:6"),
+            ("{a@b@", "Unexpected 1:6"),
+            ("{a@b(c:1", "Unexpected 1:9"),
+            ("{...", "Unexpected 1:5"),
+            ("{...}", "Unexpected 1:5"),
+            ("{...1}", "Unexpected 1:5"),
+            ("{...F{a}}", "Unexpected 1:6"),
+            ("{...F(a:1)}", "Unexpected 1:6"),
+            ("{...on}", "Unexpected 1:7"),
+            ("{...on{a}}", "Unexpected 1:7"),
+            ("{...on T}", "Unexpected 1:9"),
+            ("{...on T{}}", "Unexpected 1:10"),
+            ("{...@d}", "Unexpected 1:7"),
+            ("{\n a\n  }\n}", "Unexpected 4:1"),
+            ("{\r\n a(\r)}", "Unexpected 3:1"),
+        ],
+    )
 }
 
 #[test]
 fn definitions_refused(rt: HostRuntime) -> Result<(), Fail> {
-    let alloc = rt.alloc();
-    let table = [
-        ("", "Unexpected 1:1"),
-        (" ,\t", "Unexpected 1:4"),
-        ("#c", "Unexpected 1:3"),
-        ("#c\n", "Unexpected 2:1"),
-        ("}", "Unexpected 1:1"),
-        ("type T{a:B}", "Unexpected 1:1"),
-        ("\"\"\"d\"\"\"{a}", "Unexpected 1:1"),
-        ("{a}}", "Unexpected 1:4"),
-        ("{a} b", "Unexpected 1:5"),
-        ("{a}fragment", "Unexpected 1:12"),
-        ("query", "Unexpected 1:6"),
-        ("query Q", "Unexpected 1:8"),
-        ("query 1{a}", "Unexpected 1:7"),
-        ("query Q R{a}", "Unexpected 1:9"),
-        ("query{}", "Unexpected 1:7"),
-        ("query@d", "Unexpected 1:8"),
-        ("query Q(){a}", "Unexpected 1:9"),
-        ("query(a:T){a}", "Unexpected 1:7"),
-        ("query($", "Unexpected 1:8"),
-    ];
-    for (text, want) in table {
-        let got = shown(alloc, text)?;
-        assert_eq!(rt; got.as_str(), want, "{text}");
-    }
-    Ok(())
+    each_shown(
+        &rt,
+        rt.alloc(),
+        &[
+            ("", "Unexpected 1:1"),
+            (" ,\t", "Unexpected 1:4"),
+            ("#c", "Unexpected 1:3"),
+            ("#c\n", "Unexpected 2:1"),
+            ("}", "Unexpected 1:1"),
+            ("type T{a:B}", "Unexpected 1:1"),
+            ("\"\"\"d\"\"\"{a}", "Unexpected 1:1"),
+            ("{a}}", "Unexpected 1:4"),
+            ("{a} b", "Unexpected 1:5"),
+            ("{a}fragment", "Unexpected 1:12"),
+            ("query", "Unexpected 1:6"),
+            ("query Q", "Unexpected 1:8"),
+            ("query 1{a}", "Unexpected 1:7"),
+            ("query Q R{a}", "Unexpected 1:9"),
+            ("query{}", "Unexpected 1:7"),
+            ("query@d", "Unexpected 1:8"),
+            ("query Q(){a}", "Unexpected 1:9"),
+            ("query(a:T){a}", "Unexpected 1:7"),
+            ("query($", "Unexpected 1:8"),
+        ],
+    )
 }
 
 #[test]
 fn variables_refused(rt: HostRuntime) -> Result<(), Fail> {
-    let alloc = rt.alloc();
-    let table = [
-        ("query($a){b}", "Unexpected 1:9"),
-        ("query($a:){b}", "Unexpected 1:10"),
-        ("query($a:$T){b}", "Unexpected 1:10"),
-        ("query($a:[]){b}", "Unexpected 1:11"),
-        ("query($a:[T){b}", "Unexpected 1:12"),
-        ("query($a:T", "Unexpected 1:11"),
-        ("query($a:T!!){b}", "Unexpected 1:12"),
-        ("query($a:T=){b}", "Unexpected 1:12"),
-        ("query($a:T=$c){b}", "Unexpected 1:12"),
-        ("query($a:T=[1 $c]){b}", "Unexpected 1:15"),
-        ("query($a:T={c:$d}){b}", "Unexpected 1:15"),
-        ("query($a:T@d(e:$c)){b}", "Unexpected 1:16"),
-        ("query($a:T $b){b}", "Unexpected 1:14"),
-        ("query($a:T)", "Unexpected 1:12"),
-    ];
-    for (text, want) in table {
-        let got = shown(alloc, text)?;
-        assert_eq!(rt; got.as_str(), want, "{text}");
-    }
-    Ok(())
+    each_shown(
+        &rt,
+        rt.alloc(),
+        &[
+            ("query($a){b}", "Unexpected 1:9"),
+            ("query($a:){b}", "Unexpected 1:10"),
+            ("query($a:$T){b}", "Unexpected 1:10"),
+            ("query($a:[]){b}", "Unexpected 1:11"),
+            ("query($a:[T){b}", "Unexpected 1:12"),
+            ("query($a:T", "Unexpected 1:11"),
+            ("query($a:T!!){b}", "Unexpected 1:12"),
+            ("query($a:T=){b}", "Unexpected 1:12"),
+            ("query($a:T=$c){b}", "Unexpected 1:12"),
+            ("query($a:T=[1 $c]){b}", "Unexpected 1:15"),
+            ("query($a:T={c:$d}){b}", "Unexpected 1:15"),
+            ("query($a:T@d(e:$c)){b}", "Unexpected 1:16"),
+            ("query($a:T $b){b}", "Unexpected 1:14"),
+            ("query($a:T)", "Unexpected 1:12"),
+        ],
+    )
 }
 
 #[test]
 fn fragments_refused(rt: HostRuntime) -> Result<(), Fail> {
-    let alloc = rt.alloc();
-    let table = [
-        ("fragment", "Unexpected 1:9"),
-        ("fragment{a}", "Unexpected 1:9"),
-        ("fragment F", "Unexpected 1:11"),
-        ("fragment on on T{a}", "Unexpected 1:10"),
-        ("fragment F T{a}", "Unexpected 1:12"),
-        ("fragment F on", "Unexpected 1:14"),
-        ("fragment F on{a}", "Unexpected 1:14"),
-        ("fragment F on T", "Unexpected 1:16"),
-        ("fragment F on T{}", "Unexpected 1:17"),
-        ("fragment F on T@d", "Unexpected 1:18"),
-    ];
-    for (text, want) in table {
-        let got = shown(alloc, text)?;
-        assert_eq!(rt; got.as_str(), want, "{text}");
-    }
-    Ok(())
+    each_shown(
+        &rt,
+        rt.alloc(),
+        &[
+            ("fragment", "Unexpected 1:9"),
+            ("fragment{a}", "Unexpected 1:9"),
+            ("fragment F", "Unexpected 1:11"),
+            ("fragment on on T{a}", "Unexpected 1:10"),
+            ("fragment F T{a}", "Unexpected 1:12"),
+            ("fragment F on", "Unexpected 1:14"),
+            ("fragment F on{a}", "Unexpected 1:14"),
+            ("fragment F on T", "Unexpected 1:16"),
+            ("fragment F on T{}", "Unexpected 1:17"),
+            ("fragment F on T@d", "Unexpected 1:18"),
+        ],
+    )
 }
 
 #[test]
 fn no_tokens(rt: HostRuntime) -> Result<(), Fail> {
-    let alloc = rt.alloc();
-    let table = [
-        ("%}", "BadCharacter 1:1"),
-        ("{a%}", "BadCharacter 1:3"),
-        ("{a\u{e9}}", "BadCharacter 1:3"),
-        ("{..F}", "BadCharacter 1:2"),
-        ("{a}%", "BadCharacter 1:4"),
-        ("}%", "Unexpected 1:1"),
-        ("{}%", "Unexpected 1:2"),
-        ("{a(b:\"\\q\")}", "BadEscape 1:7"),
-        ("{a(b:\"c)}", "OpenString 1:6"),
-        ("{a(b:\"c\nd\")}", "OpenString 1:6"),
-        ("{a(b:\"\"\"c)}", "OpenString 1:6"),
-        ("{a(b:\"c\" \"", "OpenString 1:10"),
-        ("{a(b:01)}", "BadNumber 1:6"),
-        ("{a(b:[1 2.", "BadNumber 1:9"),
-        ("{a(b:1.5)}", "FloatToken 1:6"),
-        ("{a(b:1.5%}", "FloatToken 1:6"),
-    ];
-    for (text, want) in table {
-        let got = shown(alloc, text)?;
-        assert_eq!(rt; got.as_str(), want, "{text}");
-    }
-    Ok(())
+    each_shown(
+        &rt,
+        rt.alloc(),
+        &[
+            ("%}", "BadCharacter 1:1"),
+            ("{a%}", "BadCharacter 1:3"),
+            ("{a\u{e9}}", "BadCharacter 1:3"),
+            ("{..F}", "BadCharacter 1:2"),
+            ("{a}%", "BadCharacter 1:4"),
+            ("}%", "Unexpected 1:1"),
+            ("{}%", "Unexpected 1:2"),
+            ("{a(b:\"\\q\")}", "BadEscape 1:7"),
+            ("{a(b:\"c)}", "OpenString 1:6"),
+            ("{a(b:\"c\nd\")}", "OpenString 1:6"),
+            ("{a(b:\"\"\"c)}", "OpenString 1:6"),
+            ("{a(b:\"c\" \"", "OpenString 1:10"),
+            ("{a(b:01)}", "BadNumber 1:6"),
+            ("{a(b:[1 2.", "BadNumber 1:9"),
+            ("{a(b:1.5)}", "FloatToken 1:6"),
+            ("{a(b:1.5%}", "FloatToken 1:6"),
+        ],
+    )
 }
 
 #[test]
@@ -283,7 +279,7 @@ fn messages(rt: HostRuntime) -> Result<(), Fail> {
         ),
         (ParseRefusal::NoMemory, "no memory left"),
     ];
-    for (refusal, want) in table {
+    for &(refusal, want) in &table {
         let got = format!(in rt.alloc(); "{refusal}")?;
         assert_eq!(rt; got.as_str(), want);
     }

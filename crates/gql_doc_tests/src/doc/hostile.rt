@@ -5,6 +5,7 @@ use crate::shared::lexer_of;
 use gql_doc::parse;
 use gql_tree::Spot;
 use std::alloc::Global;
+use std::process::Abort;
 use std::test::Fail;
 
 /// A text of `front`, then a piece so many times, then `back`.
@@ -19,45 +20,53 @@ fn repeated(
     Ok(format!(in alloc; "{front}{middle}{back}")?)
 }
 
-#[test]
-fn long_texts(rt: HostRuntime) -> Result<(), Fail> {
-    let alloc = rt.alloc();
-    let table = [
-        ("", "#", 1_048_576, "", "Unexpected 1:1048577"),
-        ("", " ", 1_048_576, "", "Unexpected 1:1048577"),
-        ("", "\n", 1_048_576, "", "Unexpected 1048577:1"),
-        ("{a}", " ", 1_048_573, "", "ok"),
-        ("{a}", " ", 1_048_574, "", "TooLong"),
-    ];
-    for (front, piece, count, back, want) in table {
+/// Each text of a front, a piece so many times and a back is shown as it stands beside them.
+fn each_repeated(
+    rt: &impl Abort,
+    alloc: Global,
+    table: &[(&str, &str, usize, &str, &str)],
+) -> Result<(), Fail> {
+    for &(front, piece, count, back, want) in table {
         let text = repeated(alloc, front, piece, count, back)?;
         let got = shown(alloc, text.as_str())?;
         assert_eq!(rt; got.as_str(), want, "{front}{piece}");
     }
     Ok(())
+}
+
+#[test]
+fn long_texts(rt: HostRuntime) -> Result<(), Fail> {
+    each_repeated(
+        &rt,
+        rt.alloc(),
+        &[
+            ("", "#", 1_048_576, "", "Unexpected 1:1048577"),
+            ("", " ", 1_048_576, "", "Unexpected 1:1048577"),
+            ("", "\n", 1_048_576, "", "Unexpected 1048577:1"),
+            ("{a}", " ", 1_048_573, "", "ok"),
+            ("{a}", " ", 1_048_574, "", "TooLong"),
+        ],
+    )
 }
 
 #[test]
 fn many_tokens(rt: HostRuntime) -> Result<(), Fail> {
-    let alloc = rt.alloc();
-    let table = [
-        ("", "{", 1_048_576, "", "Unexpected 1:2"),
-        ("", "\"", 1_048_576, "", "Unexpected 1:1"),
-        ("", "{a", 65_536, "", "TooDeep 1:257"),
-        ("{a(b:[", "\"", 60_004, "", "OpenString 1:60007"),
-        ("{", "a ", 20_000, "}", "ok"),
-        ("", "{a}", 20_000, "", "ok"),
-    ];
-    for (front, piece, count, back, want) in table {
-        let text = repeated(alloc, front, piece, count, back)?;
-        let got = shown(alloc, text.as_str())?;
-        assert_eq!(rt; got.as_str(), want, "{front}{piece}");
-    }
-    Ok(())
+    each_repeated(
+        &rt,
+        rt.alloc(),
+        &[
+            ("", "{", 1_048_576, "", "Unexpected 1:2"),
+            ("", "\"", 1_048_576, "", "Unexpected 1:1"),
+            ("", "{a", 65_536, "", "TooDeep 1:257"),
+            ("{a(b:[", "\"", 60_004, "", "OpenString 1:60007"),
+            ("{", "a ", 20_000, "}", "ok"),
+            ("", "{a}", 20_000, "", "ok"),
+        ],
+    )
 }
 
-/// `front`, then so many openings, `inside`, as many closings and `back`.
-fn nested(
+/// What is shown of a front, so many openings, what stands inside, as many closings and a back.
+fn nested_shown(
     alloc: Global,
     opening: (&str, &str),
     inside: &str,
@@ -65,7 +74,8 @@ fn nested(
     count: usize,
 ) -> Result<String, Fail> {
     let middle = repeated(alloc, opening.0, opening.1, count, inside)?;
-    repeated(alloc, middle.as_str(), closing.0, count, closing.1)
+    let text = repeated(alloc, middle.as_str(), closing.0, count, closing.1)?;
+    shown(alloc, text.as_str())
 }
 
 #[test]
@@ -93,13 +103,11 @@ fn deep_texts(rt: HostRuntime) -> Result<(), Fail> {
             "TooDeep 1:395",
         ),
     ];
-    for (opening, inside, closing, count, want) in table {
-        let deepest = nested(alloc, opening, inside, closing, count)?;
-        let got = shown(alloc, deepest.as_str())?;
-        assert_eq!(rt; got.as_str(), "ok", "{deepest}");
-        let deeper = nested(alloc, opening, inside, closing, count.saturating_add(1))?;
-        let got = shown(alloc, deeper.as_str())?;
-        assert_eq!(rt; got.as_str(), want, "{deeper}");
+    for &(opening, inside, closing, count, want) in &table {
+        let deepest = nested_shown(alloc, opening, inside, closing, count)?;
+        assert_eq!(rt; deepest.as_str(), "ok", "{opening:?}");
+        let deeper = nested_shown(alloc, opening, inside, closing, count.saturating_add(1))?;
+        assert_eq!(rt; deeper.as_str(), want, "{opening:?}");
     }
     Ok(())
 }

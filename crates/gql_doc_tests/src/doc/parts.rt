@@ -129,9 +129,9 @@ fn definitions_read(rt: HostRuntime) -> Result<(), Fail> {
         "Fragment on I 3:22 H 3:17",
     ];
     assert_eq!(rt; document.definitions.len(), 5);
-    for (definition, want) in document.definitions.as_slice().iter().zip(wants) {
+    for (definition, want) in document.definitions.as_slice().iter().zip(&wants) {
         let got = definition_shown(alloc, definition)?;
-        assert_eq!(rt; got.as_str(), want);
+        assert_eq!(rt; got.as_str(), *want);
     }
     Ok(())
 }
@@ -155,9 +155,9 @@ fn selections_read(rt: HostRuntime) -> Result<(), Fail> {
     };
     let selections = selections_of(definition);
     assert_eq!(rt; selections.len(), 7);
-    for (selection, want) in selections.as_slice().iter().zip(wants) {
+    for (selection, want) in selections.as_slice().iter().zip(&wants) {
         let got = selection_shown(alloc, selection)?;
-        assert_eq!(rt; got.as_str(), want);
+        assert_eq!(rt; got.as_str(), *want);
     }
     Ok(())
 }
@@ -186,9 +186,9 @@ fn values_read(rt: HostRuntime) -> Result<(), Fail> {
         return Err(Fail::new("no field"));
     };
     assert_eq!(rt; field.arguments.len(), 12);
-    for (argument, want) in field.arguments.as_slice().iter().zip(wants) {
+    for (argument, want) in field.arguments.as_slice().iter().zip(&wants) {
         let got = literal_shown(alloc, &argument.value)?;
-        assert_eq!(rt; got.as_str(), want);
+        assert_eq!(rt; got.as_str(), *want);
     }
     Ok(())
 }

@@ -195,7 +195,7 @@ fn strings(rt: HostRuntime) -> Result<(), Fail> {
             "{ b : a ( of : \"\u{e9}\u{1f600}\u{7f}\" ) }",
         ),
     ];
-    for (value, want) in table {
+    for &(value, want) in &table {
         let got = with_argument(alloc, Literal::Text(text(alloc, value)?, HERE))?;
         assert_eq!(rt; got.as_str(), want, "{value}");
     }
@@ -248,7 +248,7 @@ fn printed_and_read_back(rt: HostRuntime) -> Result<(), Fail> {
             "mutation ( $ a : [ [ T ! ] ] ! = [ ] @ b $ c : D ) { e }",
         ),
     ];
-    for (text, want) in table {
+    for &(text, want) in &table {
         let once = reprinted(alloc, text)?;
         assert_eq!(rt; once.as_str(), want);
         let again = reprinted(alloc, once.as_str())?;

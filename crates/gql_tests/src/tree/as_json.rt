@@ -3,6 +3,7 @@
 use crate::values::text;
 use gql_tree::{Fields, Listed, NoMemory, NumberRefusal, Text, Value};
 use std::alloc::Global;
+use std::process::Abort;
 use std::test::Fail;
 
 fn string(alloc: Global, letters: &str) -> Result<Value, NoMemory> {
@@ -30,32 +31,36 @@ fn nested(alloc: Global) -> Result<Value, NoMemory> {
     unsorted(alloc, items, Value::List(Listed::new(alloc)))
 }
 
-#[test]
-fn writes_compact_json(rt: HostRuntime) -> Result<(), Fail> {
-    let alloc = rt.alloc();
-    let table = [
-        (Ok(Value::Null), "null"),
-        (Ok(Value::Bool(true)), "true"),
-        (Ok(Value::Int(-5)), "-5"),
-        (
-            string(alloc, "a\"b\\c\nd\u{1}e"),
-            "\"a\\\"b\\\\c\\nd\\u0001e\"",
-        ),
-        (list(alloc, Value::Int(1), Value::Bool(false)), "[1,false]"),
-        (
-            unsorted(alloc, Value::Int(2), Value::Int(1)),
-            "{\"a\":1,\"b\":2}",
-        ),
-        (
-            nested(alloc),
-            "{\"a\":[],\"b\":[null,{\"a\":\"x\",\"b\":2}]}",
-        ),
-    ];
-    for (value, want) in table {
-        let json = value?.to_json(alloc)?;
-        assert_eq!(rt; json.as_str(), want);
-    }
+/// The value is written so.
+fn is_written(rt: &impl Abort, alloc: Global, value: &Value, want: &str) -> Result<(), Fail> {
+    let json = value.to_json(alloc)?;
+    assert_eq!(rt; json.as_str(), want);
     Ok(())
+}
+
+#[test]
+fn writes_scalars(rt: HostRuntime) -> Result<(), Fail> {
+    let alloc = rt.alloc();
+    is_written(&rt, alloc, &Value::Null, "null")?;
+    is_written(&rt, alloc, &Value::Bool(true), "true")?;
+    is_written(&rt, alloc, &Value::Int(-5), "-5")?;
+    let escaped = string(alloc, "a\"b\\c\nd\u{1}e")?;
+    is_written(&rt, alloc, &escaped, "\"a\\\"b\\\\c\\nd\\u0001e\"")
+}
+
+#[test]
+fn writes_lists_and_objects(rt: HostRuntime) -> Result<(), Fail> {
+    let alloc = rt.alloc();
+    let items = list(alloc, Value::Int(1), Value::Bool(false))?;
+    is_written(&rt, alloc, &items, "[1,false]")?;
+    let members = unsorted(alloc, Value::Int(2), Value::Int(1))?;
+    is_written(&rt, alloc, &members, "{\"a\":1,\"b\":2}")?;
+    is_written(
+        &rt,
+        alloc,
+        &nested(alloc)?,
+        "{\"a\":[],\"b\":[null,{\"a\":\"x\",\"b\":2}]}",
+    )
 }
 
 /// The value of a JSON text, written again; what is no JSON is written as nothing.
@@ -69,7 +74,7 @@ fn read_and_written(alloc: Global, text: &str) -> Result<Text, NumberRefusal> {
 #[test]
 fn reads_values(rt: HostRuntime) -> Result<(), Fail> {
     let alloc = rt.alloc();
-    for (text, want) in [
+    for &(text, want) in &[
         ("null", Some("null")),
         (" [true, \"a\\u00e9\", -5] ", Some("[true,\"aé\",-5]")),
         (

@@ -39,7 +39,7 @@ fn name_of(answer: Result<(), GraftRefusal>) -> &'static str {
 fn fields_grafted(rt: HostRuntime) -> Result<(), Fail> {
     let alloc = rt.alloc();
     let grown = "{\"crew\":[7],\"hero\":{\"age\":20,\"id\":1}}";
-    for (place, name, number, answered, expected) in [
+    for &(place, name, number, answered, expected) in &[
         ("hero", "age", 20, "Ok", grown),
         ("hero", "id", 1, "Ok", OLD),
         ("hero", "id", 2, "Clash", OLD),
@@ -80,7 +80,7 @@ fn texts_grafted(rt: HostRuntime) -> Result<(), Fail> {
 fn lists_extended(rt: HostRuntime) -> Result<(), Fail> {
     let alloc = rt.alloc();
     let grown = "{\"crew\":[7,8,9],\"hero\":{\"id\":1}}";
-    for (place, items, answered, expected) in [
+    for &(place, items, answered, expected) in &[
         ("crew", &[8, 9][..], "Ok", grown),
         ("crew", &[][..], "Ok", OLD),
         ("hero", &[8][..], "NotAList", OLD),
