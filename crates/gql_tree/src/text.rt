@@ -11,7 +11,7 @@ const MOST_INLINE: usize = 16;
 
 /// A text in UTF-8 that contracts see as the list of its bytes.
 ///
-/// A short one takes no memory beside the `Text`.
+/// A short one takes no memory beside the `Text`, but for that of a string that it was made of.
 #[derive(Debug, Drop)]
 pub struct Text {
     held: Held,
