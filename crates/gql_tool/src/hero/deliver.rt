@@ -1,6 +1,6 @@
 //! Answering a request that is built: each payload is put as it is made, and fed to the client.
 
-ghost use Rattle.std.specs.Prelude.{◌≡◌, ◌<◌, ◌≤◌, ◌∷◌, [], IsErrOf};
+ghost use Rattle.std.specs.Prelude.{◌≡◌, ◌<◌, ◌≤◌, ◌∷◌, [], IfOk, IsErrOf};
 ghost use Rattle.gql_io.specs.Faults.{Counts};
 ghost use Rattle.gql_tree.specs.FirstPayloads.{first_payloads};
 ghost use Rattle.gql_tool.specs.hero.Shape.{times};
@@ -16,7 +16,7 @@ use crate::hero::shape::{Deferred, HeroDocument, LeafName};
 use crate::hero::tables::{HeroCell, HeroTables, Person};
 use gql_client::Client;
 use gql_io::Sink;
-use gql_tree::{Fault, Listed, TryCopy, Value};
+use gql_tree::{Fault, Listed, NoMemory, Payload, TryCopy, Value};
 use std::alloc::Global;
 
 /// A response in which nothing waits.
@@ -36,6 +36,23 @@ fn deliver_single<O: Sink>(
     hand_out(alloc, &payload, Stage::Only, cut, output, client)
 }
 
+/// The payload that announces the deferred leaves.
+fn first_payload(alloc: Global, run: Leaves, deferred: &Deferred) -> Result<Payload, NoMemory>
+    ensures { IfOk result (λ payload. payload ≡ announcing_of (Value.Object run.members) run.faults deferred.now.label) }
+{
+    let label = deferred.label.copy()?;
+    announcing(alloc, Value::Object(run.members), run.faults, label)
+}
+
+/// The payload that completes the deferred leaves, which are run for it.
+fn last_payload(alloc: Global, deferred: &Deferred, person: &Person) -> Result<Payload, NoMemory>
+    requires { (name : LeafName) → times name deferred.now.leaves ≤ 1 }
+    ensures { IfOk result (λ payload. payload ≡ completing_of person.now deferred.now.leaves) }
+{
+    let leaves = run_leaves(alloc, &deferred.leaves, person)?;
+    completing(alloc, leaves)
+}
+
 /// A response whose deferred leaves are run once its first payload was handed out.
 fn deliver_deferred<O: Sink>(
     alloc: Global,
@@ -52,11 +69,9 @@ fn deliver_deferred<O: Sink>(
         (O.sent output.old) (O.sent output.new) client.old client.new result }
     ensures write_fault { Counts (O.faults output.old) (O.faults output.new) (IsErrOf result Status.WriteFault) }
 {
-    let label = deferred.label.copy()?;
-    let first = announcing(alloc, Value::Object(run.members), run.faults, label)?;
+    let first = first_payload(alloc, run, deferred)?;
     hand_out(alloc, &first, Stage::First, cut, output, client)?;
-    let leaves = run_leaves(alloc, &deferred.leaves, person)?;
-    let last = completing(alloc, leaves)?;
+    let last = last_payload(alloc, deferred, person)?;
     hand_out(alloc, &last, Stage::Last, cut, output, client)
 }
 
