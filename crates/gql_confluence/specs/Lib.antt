@@ -1,0 +1,9 @@
+pub mod Times
+pub mod Course
+pub mod Payloads
+pub mod Numbering
+pub mod WellFormed
+pub mod Lawful
+pub mod Confluence
+pub mod WorkedDocuments
+pub mod WorkedPayloads

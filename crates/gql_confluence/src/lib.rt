@@ -1,0 +1,12 @@
+//! Payloads of whole forests, and the client that is sent them, in whatever order the tasks end.
+//!
+//! The crate has laws and no code that runs. Its main law says that a client takes all payloads of a
+//! well-formed forest, by any lawful schedule, and has the defined response in the end.
+#![tactic(auto)]
+
+mod laws;
+
+pub use laws::{
+    complete_orders_are_lawful, ids_are_completed, orders_of_tasks, payloads_of_fragments,
+    payloads_of_streams, payloads_without_streams_are_merged, worked_orders_are_lawful,
+};
