@@ -26,7 +26,7 @@ use Rattle.gql_merge.proofs.Taken.{IsTaken}
 use Rattle.gql_merge.proofs.Served.{IsServed, served_none, served_more, taken_as}
 use Rattle.gql_confluence.specs.Times.{Time, is_at, has_time}
 use Rattle.gql_confluence.specs.Course.{Awaited, Way, Arrival, Course}
-use Rattle.gql_confluence.specs.Payloads.{Known, known_from, all_known, awaited_cmp, pending_of, completed_of, Standing, standing_cmp, group_entries, entries, arrivals_at, value_at, payload_at, noted_all, moments, is_finished, next_of, later_payloads, payloads_of}
+use Rattle.gql_confluence.specs.Payloads.{Known, known_from, all_known, awaited_cmp, pending_of, completed_of, Standing, standing_cmp, group_entries, entries_of, arrivals_at, value_at, payload_at, noted_all, moments, is_finished, next_of, payloads_from, payloads_of}
 use Rattle.gql_confluence.proofs.Parts.{In, in_left, in_right, in_cases, HasAt, Shows}
 use Rattle.gql_confluence.proofs.Accepted.{begins_Ok, AllNew, awaited_of, AllOpen, still_open, failed_of, Fits, IsFitting, Led, taken}
 use Rattle.gql_confluence.proofs.Sorted.{flat_ordered}
@@ -245,7 +245,7 @@ module _ (c : Course) (sound : IsSound c) where
 
     fits : Fits h.parts waited q.incremental (map part_at zs)
     fits =
-        fits_same (entries ks (arrivals_at c t)) q.incremental (map part_at zs) h.parts waited
+        fits_same (entries_of ks (arrivals_at c t)) q.incremental (map part_at zs) h.parts waited
         (entries_fit c sound t late h.parts waited
         (λ y i. let o = h.of y i in (o.0, o.1, o.3))
         (λ x u i e l. h.all x i (by x u i e l (released_step x i).0))
@@ -310,8 +310,8 @@ module _ (c : Course) (sound : IsSound c) where
 
     payload_errors : IsPermutation now_errors (faults_of q)
     payload_errors =
-        let one : faults_of q ≡ flat_map (λ (e : Entry). e.errors) (entries ks (arrivals_at c t)) = λ i. sym is.errors i ++ same_errors _ _ is.incremental i in
-        let two : flat_map (λ (e : Entry). e.errors) (entries ks (arrivals_at c t)) ≡ flat_map (λ (z : Standing). z.entry.errors) zs = flat_entries zs in
+        let one : faults_of q ≡ flat_map (λ (e : Entry). e.errors) (entries_of ks (arrivals_at c t)) = λ i. sym is.errors i ++ same_errors _ _ is.incremental i in
+        let two : flat_map (λ (e : Entry). e.errors) (entries_of ks (arrivals_at c t)) ≡ flat_map (λ (z : Standing). z.entry.errors) zs = flat_entries zs in
         let three : IsPermutation (flat_map (λ (z : Standing). z.entry.errors) zs) (flat_map (λ (z : Standing). z.entry.errors) (standings c sound t late)) = flat_ordered standing_cmp (λ z. z.entry.errors) (standings c sound t late) in
         let four : standings c sound t late ≡ flat_map (group_entries ks) (arrivals_at c t) = ap (λ (l : List Standing). flat_map (group_entries ks) (arrivals_at c t) ++ l) (no_streams c sound (arrivals_at c t)) ∙ append-nil _ in
         let five : flat_map (λ (z : Standing). z.entry.errors) (flat_map (group_entries ks) (arrivals_at c t)) ≡ flat_map (λ (x : Arrival). x.region.faults) (arrivals_at c t) = flat_errors c sound t late (arrivals_at c t) (brought_at c sound t late) in
@@ -423,7 +423,7 @@ module _ (c : Course) (sound : IsSound c) where
         let f = only_first x j.0 (at_upto x.released j.1) in
         ap (λ (w : Way). group_entries ks (record x { way = w })) (ap (λ (y : Arrival). y.way) f ∙ sound.way_first)
 
-    no_entries : entries ks (arrivals_at c 0) ≡ []
+    no_entries : entries_of ks (arrivals_at c 0) ≡ []
     no_entries = λ i. map (λ (z : Standing). z.entry) (ordered standing_cmp (flat_none (group_entries ks) (arrivals_at c 0) no_group i ++ no_streams c sound (arrivals_at c 0) i))
 
     none_closing : closing 0 ≡ []
@@ -598,11 +598,11 @@ module _ (c : Course) (sound : IsSound c) where
     ended = e;
   }
 
-  served_from : (us : List ℕ) (m : ℕ) (s : State) → Later m us → AllDue m us → (c.awaited ≡ [] → us ≡ []) → Holds m s → s.ended ≡ is_last (next_of c us) → IsServed s (later_payloads c us) HasAll
+  served_from : (us : List ℕ) (m : ℕ) (s : State) → Later m us → AllDue m us → (c.awaited ≡ [] → us ≡ []) → Holds m s → s.ended ≡ is_last (next_of c us) → IsServed s (payloads_from c us) HasAll
   served_from [] m s later due none h e = served_none s HasAll (has_all m s due h (e ∙ last_next finished))
   served_from (t ∷ us) m s later due none h e =
       let some : c.awaited ≡ [] → ⊥ = λ f. cons_nil t us (none f) in
-      served_more s HasAll (payload_at c t None [] (next_of c us)) (later_payloads c us) (λ n. Holds t n × (n.ended ≡ is_last (next_of c us)))
+      served_more s HasAll (payload_at c t None [] (next_of c us)) (payloads_from c us) (λ n. Holds t n × (n.ended ≡ is_last (next_of c us)))
       (λ q is. taken_now m t us later due s h (e ∙ more_next t us some) q is (more_by us some))
       (λ n k. served_from us t n later.1 (all_due_next m t us later.0 due) (λ f. absurd (some f)) k.0 k.1)
     where
@@ -639,7 +639,7 @@ module _ (c : Course) (sound : IsSound c) where
   -- the payloads of a sound course are taken, and the client has all that arrives
   pub course_served : IsServed fresh (payloads_of sound.first.region c) HasAll
   course_served =
-      served_more fresh HasAll (payload_at c 0 (Some (value_at sound.first)) sound.first.region.faults (next_of c (moments c))) (later_payloads c (moments c)) (λ n. Holds 0 n × (n.ended ≡ is_last (next_of c (moments c))))
+      served_more fresh HasAll (payload_at c 0 (Some (value_at sound.first)) sound.first.region.faults (next_of c (moments c))) (payloads_from c (moments c)) (λ n. Holds 0 n × (n.ended ≡ is_last (next_of c (moments c))))
       (λ q is. first_taken (moments c) start_due q is (more_by (moments c) nothing_later))
       (λ n k. served_from (moments c) 0 n (later_all (map (λ a. a.announced) c.awaited ++ (map (λ x. x.released) c.arrivals ++ map (λ a. a.done) c.awaited))) start_due nothing_later k.0 k.1)
     where

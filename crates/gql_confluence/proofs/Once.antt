@@ -14,7 +14,7 @@ use Rattle.gql_tree.specs.Forest.{region}
 use Rattle.gql_tree.specs.FirstPayloads.{outcome_value}
 use Rattle.gql_confluence.specs.Times.{Time, is_at}
 use Rattle.gql_confluence.specs.Course.{Awaited, Course, course}
-use Rattle.gql_confluence.specs.Payloads.{Known, all_known, pending_of, completed_of, payload_at, moments, next_of, later_payloads, payloads_of}
+use Rattle.gql_confluence.specs.Payloads.{Known, all_known, pending_of, completed_of, payload_at, moments, next_of, payloads_from, payloads_of}
 use Rattle.gql_confluence.specs.Lawful.{is_done_in_time}
 use Rattle.gql_confluence.specs.Confluence.{announced_ids, completed_ids, HasOneRecord, IdsAreCompleted}
 use Rattle.gql_confluence.proofs.Parts.{In, in_left, in_right}
@@ -113,12 +113,12 @@ module _ (c : Course) (few : length c.awaited < 2 ^ 64) (timed : (a : Awaited) �
 
     -- one kind of record: its ids in a payload, and its time
     module _ (ids : Payload → List (List ℕ)) (a : ℕ) (count : (t : ℕ) (v : Option Value) (fs : List Fault) (h : Option Bool) → count_by (bytes_eq id) (ids (payload_at c t v fs h)) ≡ cond (a == t) 1 0) where
-      none_later : (m : ℕ) (us : List ℕ) → Later m us → a ≤ m → count_by (bytes_eq id) (flat_map ids (later_payloads c us)) ≡ 0
+      none_later : (m : ℕ) (us : List ℕ) → Later m us → a ≤ m → count_by (bytes_eq id) (flat_map ids (payloads_from c us)) ≡ 0
       none_later m [] l h = refl
       none_later m (u ∷ us) l h =
           let x = count u None [] (next_of c us) in
           let y = none_later u us l.1 (let g = l.0 in omega arith) in
-          let z = count_two id (ids (payload_at c u None [] (next_of c us))) (flat_map ids (later_payloads c us)) in
+          let z = count_two id (ids (payload_at c u None [] (next_of c us))) (flat_map ids (payloads_from c us)) in
           let w : cond {A = ℕ} (a == u) 1 0 ≡ 0 = let g = l.0 in grind (arith, nat_tests) in
           omega arith
 
@@ -127,18 +127,18 @@ module _ (c : Course) (few : length c.awaited < 2 ^ 64) (timed : (a : Awaited) �
       later_than m b (u ∷ us) l (inl e) = let g = l.0 in omega arith
       later_than m b (u ∷ us) l (inr i) = let r = later_than u b us l.1 i in let g = l.0 in omega arith
 
-      one_later : (m : ℕ) (us : List ℕ) → Later m us → In a us → count_by (bytes_eq id) (flat_map ids (later_payloads c us)) ≡ 1
+      one_later : (m : ℕ) (us : List ℕ) → Later m us → In a us → count_by (bytes_eq id) (flat_map ids (payloads_from c us)) ≡ 1
       one_later m [] l i = absurd i
       one_later m (u ∷ us) l (inl e) =
           let x = count u None [] (next_of c us) in
           let y = none_later u us l.1 (omega arith) in
-          let z = count_two id (ids (payload_at c u None [] (next_of c us))) (flat_map ids (later_payloads c us)) in
+          let z = count_two id (ids (payload_at c u None [] (next_of c us))) (flat_map ids (payloads_from c us)) in
           let w : cond {A = ℕ} (a == u) 1 0 ≡ 1 = grind (arith, nat_tests) in
           omega arith
       one_later m (u ∷ us) l (inr i) =
           let x = count u None [] (next_of c us) in
           let y = one_later u us l.1 i in
-          let z = count_two id (ids (payload_at c u None [] (next_of c us))) (flat_map ids (later_payloads c us)) in
+          let z = count_two id (ids (payload_at c u None [] (next_of c us))) (flat_map ids (payloads_from c us)) in
           let g = later_than u a us l.1 i in
           let w : cond {A = ℕ} (a == u) 1 0 ≡ 0 = grind (arith, nat_tests) in
           omega arith
@@ -149,14 +149,14 @@ module _ (c : Course) (few : length c.awaited < 2 ^ 64) (timed : (a : Awaited) �
         by (inl h) =
             let x = count 0 (Some (outcome_value r.outcome)) r.faults (next_of c (moments c)) in
             let y = none_later 0 (moments c) (later_all (map (λ b. b.announced) c.awaited ++ (map (λ b. b.released) c.arrivals ++ map (λ b. b.done) c.awaited))) h in
-            let z = count_two id (ids (payload_at c 0 (Some (outcome_value r.outcome)) r.faults (next_of c (moments c)))) (flat_map ids (later_payloads c (moments c))) in
+            let z = count_two id (ids (payload_at c 0 (Some (outcome_value r.outcome)) r.faults (next_of c (moments c)))) (flat_map ids (payloads_from c (moments c))) in
             let w : cond {A = ℕ} (a == 0) 1 0 ≡ 1 = grind (arith, nat_tests) in
             omega arith
         by (inr i) =
             let x = count 0 (Some (outcome_value r.outcome)) r.faults (next_of c (moments c)) in
             let all = later_all (map (λ b. b.announced) c.awaited ++ (map (λ b. b.released) c.arrivals ++ map (λ b. b.done) c.awaited)) in
             let y = one_later 0 (moments c) all i in
-            let z = count_two id (ids (payload_at c 0 (Some (outcome_value r.outcome)) r.faults (next_of c (moments c)))) (flat_map ids (later_payloads c (moments c))) in
+            let z = count_two id (ids (payload_at c 0 (Some (outcome_value r.outcome)) r.faults (next_of c (moments c)))) (flat_map ids (payloads_from c (moments c))) in
             let g = later_than 0 a (moments c) all i in
             let w : cond {A = ℕ} (a == 0) 1 0 ≡ 0 = grind (arith, nat_tests) in
             omega arith
@@ -181,7 +181,7 @@ module _ (c : Course) (few : length c.awaited < 2 ^ 64) (timed : (a : Awaited) �
   nil_cons (x ∷ xs) q ys e = cc
 
   -- the fragment or stream, and its moment
-  found_later : (us : List ℕ) (before : List Payload) (q : Payload) (after : List Payload) (id : List ℕ) → later_payloads c us ≡ before ++ q ∷ after → In id (announced_ids q)
+  found_later : (us : List ℕ) (before : List Payload) (q : Payload) (after : List Payload) (id : List ℕ) → payloads_from c us ≡ before ++ q ∷ after → In id (announced_ids q)
       → (t : ℕ) × In t us × ((k : Known) × In k ks × (id ≡ decimal k.number) × (is_at t k.awaited.announced ≡ true))
   found_later [] before q after id' e i = absurd (nil_cons before q after e)
   found_later (u ∷ us) [] q after id e i =
@@ -206,7 +206,7 @@ module _ (c : Course) (few : length c.awaited < 2 ^ 64) (timed : (a : Awaited) �
         omega arith
 
     -- where it is announced behind these payloads, and done no earlier
-    none_before : (m : ℕ) (us : List ℕ) → Later m us → (before : List Payload) (q : Payload) (after : List Payload) → later_payloads c us ≡ before ++ q ∷ after
+    none_before : (m : ℕ) (us : List ℕ) → Later m us → (before : List Payload) (q : Payload) (after : List Payload) → payloads_from c us ≡ before ++ q ∷ after
         → ((t : ℕ) → In t us → is_at t k.awaited.announced ≡ true → t ≤ d) → In (decimal k.number) (announced_ids q) → count_by (bytes_eq (decimal k.number)) (flat_map completed_ids before) ≡ 0
     none_before m [] l before q after e late i = absurd (nil_cons before q after e)
     none_before m (u ∷ us) l [] q after e late i = refl

@@ -22,7 +22,7 @@ use Rattle.gql_tree.specs.Flat.{Mark, object, flat, members_of}
 use Rattle.gql_tree.specs.Forest.{Forest, Branches, grown, none, more, numbers, items_to_come, tasks_of}
 use Rattle.gql_tree.specs.FirstPayloads.{outcome_value}
 use Rattle.gql_tree.specs.Fate.{is_good, Scope, scope_of}
-use Rattle.gql_confluence.specs.WellFormed.{Site, works_of, root_site, keys_of, sites_below, sites, is_prefix, mark_at, is_object, is_absent, apart, stands_below, brings_new_keys, share_a_key, collide, has_the_keys, has_its_fields, IsWellFormed, HasNoItems}
+use Rattle.gql_confluence.specs.WellFormed.{Site, works_of, root_site, keys_of, sites_below, sites, is_prefix, mark_at, shows_object, shows_nothing, no_two, stands_below, brings_new_keys, share_a_key, collide, has_the_keys, has_its_fields, IsWellFormed, HasNoItems}
 use Rattle.gql_confluence.proofs.Parts.{In, in_left, in_right, in_cases, HasAt}
 use Rattle.gql_confluence.proofs.Lists.{and_left, in_map, in_flat, all_at, any_at, to_any}
 use Rattle.gql_confluence.proofs.Deciders.{same_keys-refl, prefix_drop, prefix_of, drop_of}
@@ -43,12 +43,12 @@ not_any_by p xs h x i = by (p x) refl where
   by false e = e
 
 -- of two elements of an apart list that stand one behind the other
-pub apart_at : {X : Type 0} (same : X → X → Bool) (xs : List X) (y : X) (ys : List X) → apart same (xs ++ y ∷ ys) ≡ true → (x : X) → In x xs → same x y ≡ false
+pub apart_at : {X : Type 0} (same : X → X → Bool) (xs : List X) (y : X) (ys : List X) → no_two same (xs ++ y ∷ ys) ≡ true → (x : X) → In x xs → same x y ≡ false
 apart_at same [] y ys h x i = absurd i
 apart_at same (z ∷ xs) y ys h x (inl e) =
-    let p = and_left (not (list_any (same z) (xs ++ y ∷ ys))) (apart same (xs ++ y ∷ ys)) h in
+    let p = and_left (not (list_any (same z) (xs ++ y ∷ ys))) (no_two same (xs ++ y ∷ ys)) h in
     ap (λ w. same w y) e ∙ not_any_by (same z) (xs ++ y ∷ ys) p.0 y (in_right y xs (y ∷ ys) (inl refl))
-apart_at same (z ∷ xs) y ys h x (inr i) = apart_at same xs y ys (and_left (not (list_any (same z) (xs ++ y ∷ ys))) (apart same (xs ++ y ∷ ys)) h).1 x i
+apart_at same (z ∷ xs) y ys h x (inr i) = apart_at same xs y ys (and_left (not (list_any (same z) (xs ++ y ∷ ys))) (no_two same (xs ++ y ∷ ys)) h).1 x i
 
 -- ---- tasks
 
@@ -84,7 +84,7 @@ or_cases : (a b : Bool) → (a || b) ≡ true → (a ≡ true) ⊎ (b ≡ true)
 or_cases true b e = inl refl
 or_cases false b e = inr e
 
-absent_by : (o : Option Mark) (m : Mark) → o ≡ Some m → is_absent o ≡ true → ⊥
+absent_by : (o : Option Mark) (m : Mark) → o ≡ Some m → shows_nothing o ≡ true → ⊥
 absent_by None m e h = cc
 absent_by (Some n) m e h = cc
 
@@ -102,8 +102,8 @@ module _ (f : Forest) (wf : IsWellFormed f) where
     abbrev rest : List Key
     rest = drop (length y.at) g.path.keys
 
-    place : (is_object (mark_at y g.path.keys) ≡ true) × ((y.is_root || nat_lt (length y.at) (length g.path.keys)) ≡ true)
-    place = and_left (is_object (mark_at y g.path.keys)) _ (all_at (stands_below y) y.region.groups (all_at (λ x. list_all (stands_below x) x.region.groups) regions wf.groups_stand y is_y) g is_g)
+    place : (shows_object (mark_at y g.path.keys) ≡ true) × ((y.is_root || nat_lt (length y.at) (length g.path.keys)) ≡ true)
+    place = and_left (shows_object (mark_at y g.path.keys)) _ (all_at (stands_below y) y.region.groups (all_at (λ x. list_all (stands_below x) x.region.groups) regions wf.groups_stand y is_y) g is_g)
 
     there : (is_prefix y.at g.path.keys ≡ true) × (flat (value_in y) rest ≡ Some object)
     there = marked y g.path.keys object (object_mark (mark_at y g.path.keys) place.0)
@@ -121,14 +121,14 @@ module _ (f : Forest) (wf : IsWellFormed f) where
     new_at : (n : List ℕ) → In n (keys_of g) → (m : Mark) → HasAt (part_in y) (g.path.keys ++ Name n ∷ []) m → ⊥
     new_at n i m h =
         let all = all_at (brings_new_keys y) y.region.groups (all_at (λ x. list_all (brings_new_keys x) x.region.groups) regions wf.new_keys y is_y) g is_g in
-        let none = all_at (λ k. is_absent (mark_at y (g.path.keys ++ Name k ∷ []))) (keys_of g) all n i in
+        let none = all_at (λ k. shows_nothing (mark_at y (g.path.keys ++ Name k ∷ []))) (keys_of g) all n i in
         absent_by (mark_at y (g.path.keys ++ Name n ∷ [])) m (ap (mark_at y) h.1 ∙ (to_marked y h.0 ∙ h.2)) none
 
     -- a good region is an object whose names are its keys
-    fields_of : is_good a.region ≡ true → (is_object (flat (value_in a) []) ≡ true) × (has_the_keys a.keys (members_of (out-Value (value_in a))) ≡ true)
+    fields_of : is_good a.region ≡ true → (shows_object (flat (value_in a) []) ≡ true) × (has_the_keys a.keys (members_of (out-Value (value_in a))) ≡ true)
     fields_of good = and_left _ _ (by (is_good a.region) a.is_root good no_root (all_at has_its_fields regions wf.fields a is_a)) where
-      by : (b c : Bool) → b ≡ true → c ≡ false → (not b || cond c true (is_object (flat (value_in a) []) && has_the_keys a.keys (members_of (out-Value (value_in a))))) ≡ true
-          → (is_object (flat (value_in a) []) && has_the_keys a.keys (members_of (out-Value (value_in a)))) ≡ true
+      by : (b c : Bool) → b ≡ true → c ≡ false → (not b || cond c true (shows_object (flat (value_in a) []) && has_the_keys a.keys (members_of (out-Value (value_in a))))) ≡ true
+          → (shows_object (flat (value_in a) []) && has_the_keys a.keys (members_of (out-Value (value_in a)))) ≡ true
       by true true e e' h = absurd (cc)
       by true false e e' h = h
       by false c e e' h = absurd (cc)
@@ -161,7 +161,7 @@ module _ (f : Forest) (wf : IsWellFormed f) where
   -- two groups at one path share no key
   others : (xs : List Site) (a : Site) (ys : List Site) → regions ≡ xs ++ a ∷ ys → a.is_root ≡ false → (b : Site) → In b xs → b.is_root ≡ false → b.at ≡ a.at → (n : List ℕ) → In n b.keys → In n a.keys → ⊥
   others xs a ys e ra b i rb at n j k =
-      let no = apart_at collide xs a ys (subst (λ (l : List Site). apart collide l ≡ true) e wf.groups_apart) b i in
+      let no = apart_at collide xs a ys (subst (λ (l : List Site). no_two collide l ≡ true) e wf.groups_apart) b i in
       let shared : share_a_key b.keys a.keys ≡ true = to_any (λ x. list_any (bytes_eq x) a.keys) b.keys n j (to_any (bytes_eq n) a.keys n k ((bytes_eq-Decides n n).1 refl)) in
       let paths : same_lists same_key b.at a.at ≡ true = ap (λ (p : List Key). same_lists same_key b.at p) (sym at) ∙ same_keys-refl b.at in
       by b.is_root a.is_root (same_lists same_key b.at a.at) _ (share_a_key b.keys a.keys) rb ra paths shared no

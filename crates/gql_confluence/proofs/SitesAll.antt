@@ -19,7 +19,7 @@ use Rattle.gql_tree.specs.Keys.{same_lists, same_key}
 use Rattle.gql_tree.specs.Flat.{Mark, null, truth, integer, text, object, list, mark_of, flat, members_of}
 use Rattle.gql_tree.specs.Forest.{Forest, Branches, grown, none, more, numbers, items_to_come, tasks_of}
 use Rattle.gql_tree.specs.Fate.{is_good, Scope, scope_of}
-use Rattle.gql_confluence.specs.WellFormed.{Site, works_of, root_site, keys_of, sites_below, sites, mark_at, is_object, apart, share_a_key, collide, coincide, is_list_of, begins_a_list, has_the_keys, has_its_fields, IsWellFormed}
+use Rattle.gql_confluence.specs.WellFormed.{Site, works_of, root_site, keys_of, sites_below, sites, mark_at, shows_object, no_two, share_a_key, collide, coincide, shows_list, begins_a_list, has_the_keys, has_its_fields, IsWellFormed}
 use Rattle.gql_confluence.proofs.Parts.{In, in_left, in_right, in_cases}
 use Rattle.gql_confluence.proofs.Lists.{and_left, in_map, in_flat, all_at, to_any}
 use Rattle.gql_confluence.proofs.Deciders.{same_keys-refl, prefix_drop}
@@ -37,7 +37,7 @@ module _ (f : Forest) (wf : IsWellFormed f) where
   -- two groups at one path share no key
   others : (xs : List Site) (a : Site) (ys : List Site) → regions ≡ xs ++ a ∷ ys → (b : Site) → In b xs → b.is_root ≡ false → a.is_root ≡ false → b.at ≡ a.at → (n : List ℕ) → In n b.keys → In n a.keys → ⊥
   others xs a ys e b i rb ra at n j k =
-      let none' = apart_at collide xs a ys (subst (λ (l : List Site). apart collide l ≡ true) e wf.groups_apart) b i in
+      let none' = apart_at collide xs a ys (subst (λ (l : List Site). no_two collide l ≡ true) e wf.groups_apart) b i in
       let shared : share_a_key b.keys a.keys ≡ true = to_any (λ x. list_any (bytes_eq x) a.keys) b.keys n j (to_any (bytes_eq n) a.keys n k ((bytes_eq-Decides n n).1 refl)) in
       let paths : same_lists same_key b.at a.at ≡ true = ap (λ (p : List Key). same_lists same_key b.at p) (sym at) ∙ same_keys-refl b.at in
       by b.is_root a.is_root (same_lists same_key b.at a.at) _ (share_a_key b.keys a.keys) rb ra paths shared none'
@@ -49,7 +49,7 @@ module _ (f : Forest) (wf : IsWellFormed f) where
   -- no two items stand at one place
   other_items : (xs : List Site) (a : Site) (ys : List Site) → regions ≡ xs ++ a ∷ ys → (b : Site) → In b xs → b.is_root ≡ true → a.is_root ≡ true → b.at ≡ a.at → ⊥
   other_items xs a ys e b i rb ra at =
-      let none' = apart_at coincide xs a ys (subst (λ (l : List Site). apart coincide l ≡ true) e wf.items_apart) b i in
+      let none' = apart_at coincide xs a ys (subst (λ (l : List Site). no_two coincide l ≡ true) e wf.items_apart) b i in
       let paths : same_lists same_key b.at a.at ≡ true = ap (λ (p : List Key). same_lists same_key b.at p) (sym at) ∙ same_keys-refl b.at in
       let k : (b.is_root && a.is_root && same_lists same_key b.at a.at) ≡ true = rw (rb, ra, paths) refl in
       cc
@@ -78,10 +78,10 @@ module _ (f : Forest) (wf : IsWellFormed f) where
         let l = numbers_least m.0.first (m.0.length - m.0.first) k.0 k.1 in
         (subst (λ (t : Stream). In t r.streams) (sym e.0) m.1, (let f : st.first ≡ m.0.first = ap (λ (t : Stream). t.first) e.0 in let h = e.1 in omega arith))
 
-  list_mark : (n : ℕ) (o : Option Mark) → is_list_of n o ≡ true → o ≡ Some (list n)
+  list_mark : (n : ℕ) (o : Option Mark) → shows_list n o ≡ true → o ≡ Some (list n)
   list_mark n None e = absurd (cc)
   list_mark n (Some m) e = by m e where
-    by : (m : Mark) → is_list_of n (Some m) ≡ true → Some m ≡ Some (list n)
+    by : (m : Mark) → shows_list n (Some m) ≡ true → Some m ≡ Some (list n)
     by null e = absurd (cc)
     by (truth b) e = absurd (cc)
     by (integer z) e = absurd (cc)
@@ -95,15 +95,15 @@ module _ (f : Forest) (wf : IsWellFormed f) where
     object_list : (o : Option Mark) → o ≡ Some object → o ≡ Some (list n) → ⊥
     object_list o e f = cc
 
-    pick : (b c : Bool) → b ≡ true → c ≡ false → (not b || cond c true (is_object (flat (value_in y) []) && has_the_keys y.keys (members_of (out-Value (value_in y))))) ≡ true
-        → (is_object (flat (value_in y) []) && has_the_keys y.keys (members_of (out-Value (value_in y)))) ≡ true
+    pick : (b c : Bool) → b ≡ true → c ≡ false → (not b || cond c true (shows_object (flat (value_in y) []) && has_the_keys y.keys (members_of (out-Value (value_in y))))) ≡ true
+        → (shows_object (flat (value_in y) []) && has_the_keys y.keys (members_of (out-Value (value_in y)))) ≡ true
     pick true true e e' k = absurd (cc)
     pick true false e e' k = k
     pick false c e e' k = absurd (cc)
 
     by : (is_good y.region ≡ true) ⊎ (value_in y ≡ Null) → ⊥
     by (inl good) =
-        let f = and_left (is_object (flat (value_in y) [])) _ (pick (is_good y.region) y.is_root good nr (all_at has_its_fields regions wf.fields y i)) in
+        let f = and_left (shows_object (flat (value_in y) [])) _ (pick (is_good y.region) y.is_root good nr (all_at has_its_fields regions wf.fields y i)) in
         object_list (flat (value_in y) []) (object_mark (flat (value_in y) []) f.0) h
     by (inr null') =
         let f : flat Null [] ≡ Some (list n) = ap (λ (v : Value). flat v []) (sym null') ∙ h in
@@ -112,7 +112,7 @@ module _ (f : Forest) (wf : IsWellFormed f) where
 
   item_of : (y a : Site) (st : Stream) (n : ℕ) → In y regions → In st y.region.streams → st.first ≤ n → a.at ≡ st.path.keys ++ Index n ∷ [] → a.is_root ≡ true → IsItemOf a y
   item_of y a st n is_y is_st le at root =
-      let t = and_left (is_list_of st.first (mark_at y st.path.keys)) _ (all_at (begins_a_list y) y.region.streams (all_at (λ x. list_all (begins_a_list x) x.region.streams) regions wf.streams_stand y is_y) st is_st) in
+      let t = and_left (shows_list st.first (mark_at y st.path.keys)) _ (all_at (begins_a_list y) y.region.streams (all_at (λ x. list_all (begins_a_list x) x.region.streams) regions wf.streams_stand y is_y) st is_st) in
       let m = marked y st.path.keys (list st.first) (list_mark st.first (mark_at y st.path.keys) t.0) in
       let path = prefix_drop y.at st.path.keys m.0 in
       record {

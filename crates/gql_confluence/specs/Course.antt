@@ -74,7 +74,7 @@ items_awaited items s = filter (λ x. list_all (λ y. nat_le x.index y.index || 
 pub record Awaited : Type 0 where
   pub path : Path
   pub label : Option (List ℕ)
-  -- or a fragment
+  -- else a fragment
   pub is_stream : Bool
   pub place : ℕ
   pub announced : Time
@@ -104,12 +104,12 @@ pub record Course : Type 0 where
   pub arrivals : List Arrival
 
 -- nothing comes
-abbrev pub nothing : Course
-nothing = record { awaited = []; arrivals = [] }
+abbrev pub nothing_comes : Course
+nothing_comes = record { awaited = []; arrivals = [] }
 
 -- what comes of two things, one behind the other
-abbrev pub both : Course → Course → Course
-both a b = record { awaited = a.awaited ++ b.awaited; arrivals = a.arrivals ++ b.arrivals }
+abbrev pub both_come : Course → Course → Course
+both_come a b = record { awaited = a.awaited ++ b.awaited; arrivals = a.arrivals ++ b.arrivals }
 
 -- no errors where there is no failure
 abbrev pub faults_or_none : Option (List Fault) → List Fault
@@ -146,15 +146,15 @@ module _ (p : Schedule) where
   awaited_fragments s begun = map (awaited_fragment s begun) (filter (λ f. is_announced s f.id) s.fragments)
 
   -- a region that is delivered, with its streams
-  abbrev pub one : List Key → RegionResult → Time → Way → List ItemRun → Course
-  one at r released way items = record {
+  abbrev pub one_comes : List Key → RegionResult → Time → Way → List ItemRun → Course
+  one_comes at r released way items = record {
     awaited = map (awaited_stream items released) r.streams;
     arrivals = record { at = at; region = r; released = released; way = way } ∷ [];
   }
 
   -- a scope that is delivered: its root region, what is delivered below it, and its fragments
-  abbrev pub whole_scope : List Key → RegionResult → Time → Way → List ItemRun → Scope → Course → Course
-  whole_scope at r begun way items s inside = both (one at r begun way items) (both inside (record { awaited = awaited_fragments s begun; arrivals = [] }))
+  abbrev pub scope_comes : List Key → RegionResult → Time → Way → List ItemRun → Scope → Course → Course
+  scope_comes at r begun way items s inside = both_come (one_comes at r begun way items) (both_come inside (record { awaited = awaited_fragments s begun; arrivals = [] }))
 
   -- when an item of a region that is released then is released
   abbrev pub item_at : List ItemRun → Time → Stream → ℕ → Time
@@ -162,18 +162,18 @@ module _ (p : Schedule) where
 
   -- what comes of the tasks of a region of this scope, and below them; `here` tells whether the region is delivered, `released`
   -- when, and `items` are the items of its streams
-  abbrev pub below : Scope → Time → Bool → Time → List ItemRun → Branches → Course
-  below s begun here released items none = nothing
-  below s begun here released items (more (Fields g) (grown r inner) bs) =
-      both (if is_delivered s g then one g.path.keys r (released_at p s begun g) (by_owners g (carriers p s begun g)) (items_run inner) else nothing)
-      (both (below s begun (is_delivered s g) (released_at p s begun g) (items_run inner) inner) (below s begun here released items bs))
-  below s begun here released items (more (Item st i) (grown r inner) bs) =
-      both (if here && is_item_delivered items st i
-      then whole_scope (st.path.keys ++ Index i ∷ []) r (item_at items released st i) (by_stream st) (items_run inner) (scope_of (grown r inner))
-      (below (scope_of (grown r inner)) (item_at items released st i) true (item_at items released st i) (items_run inner) inner)
-      else nothing)
-      (below s begun here released items bs)
+  abbrev pub come_below : Scope → Time → Bool → Time → List ItemRun → Branches → Course
+  come_below s begun here released items none = nothing_comes
+  come_below s begun here released items (more (Fields g) (grown r inner) bs) =
+      both_come (if is_delivered s g then one_comes g.path.keys r (released_at p s begun g) (by_owners g (carriers p s begun g)) (items_run inner) else nothing_comes)
+      (both_come (come_below s begun (is_delivered s g) (released_at p s begun g) (items_run inner) inner) (come_below s begun here released items bs))
+  come_below s begun here released items (more (Item st i) (grown r inner) bs) =
+      both_come (if here && is_item_delivered items st i
+      then scope_comes (st.path.keys ++ Index i ∷ []) r (item_at items released st i) (by_stream st) (items_run inner) (scope_of (grown r inner))
+      (come_below (scope_of (grown r inner)) (item_at items released st i) true (item_at items released st i) (items_run inner) inner)
+      else nothing_comes)
+      (come_below s begun here released items bs)
 
   -- what comes of a forest, from its root on; the initial region is released at time 0
   abbrev pub course : Forest → Course
-  course (grown r bs) = whole_scope [] r (Some 0) at_first (items_run bs) (scope_of (grown r bs)) (below (scope_of (grown r bs)) (Some 0) true (Some 0) (items_run bs) bs)
+  course (grown r bs) = scope_comes [] r (Some 0) at_first (items_run bs) (scope_of (grown r bs)) (come_below (scope_of (grown r bs)) (Some 0) true (Some 0) (items_run bs) bs)

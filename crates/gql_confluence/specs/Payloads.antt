@@ -67,8 +67,8 @@ completed_of k = record { id = decimal k.number; errors = k.awaited.errors }
 -- ---- entries
 
 -- it is a fragment, and one of these
-abbrev pub is_one_of : List FragId → Awaited → Bool
-is_one_of ids a = not a.is_stream && list_any (λ id. same_fragment id (record { place = a.place; path = a.path })) ids
+abbrev pub is_among : List FragId → Awaited → Bool
+is_among ids a = not a.is_stream && list_any (λ id. same_fragment id (record { place = a.place; path = a.path })) ids
 
 -- the one with the longest path, of several the first
 abbrev pub farthest : List Known → Option Known
@@ -101,7 +101,7 @@ group_entry x places k = record {
 abbrev pub group_entries : List Known → Arrival → List Standing
 group_entries ks x = elim x.way [
   | at_first ↦ []
-  | by_owners g ids ↦ elim (farthest (filter (λ k. is_one_of ids k.awaited) ks)) [ None ↦ [] | Some k ↦ group_entry x (map (λ o. o.place) g.owners) k ∷ [] ]
+  | by_owners g ids ↦ elim (farthest (filter (λ k. is_among ids k.awaited) ks)) [ None ↦ [] | Some k ↦ group_entry x (map (λ o. o.place) g.owners) k ∷ [] ]
   | by_stream s ↦ []
 ]
 
@@ -123,8 +123,8 @@ abbrev pub stream_entries : List Arrival → Known → List Standing
 stream_entries xs k = items_entry k (filter (is_item_of k) xs)
 
 -- what is released at one time, by target and then in group order
-abbrev pub entries : List Known → List Arrival → List Entry
-entries ks xs = map (λ e. e.entry) (ordered standing_cmp (flat_map (group_entries ks) xs ++ flat_map (stream_entries xs) ks))
+abbrev pub entries_of : List Known → List Arrival → List Entry
+entries_of ks xs = map (λ e. e.entry) (ordered standing_cmp (flat_map (group_entries ks) xs ++ flat_map (stream_entries xs) ks))
 
 -- ---- payloads
 
@@ -138,7 +138,7 @@ payload_at c t initial errors has_next = record {
   initial = initial;
   errors = errors;
   pending = map pending_of (filter (λ k. is_at t k.awaited.announced) (all_known c));
-  incremental = entries (all_known c) (arrivals_at c t);
+  incremental = entries_of (all_known c) (arrivals_at c t);
   completed = map completed_of (filter (λ k. is_at t k.awaited.done) (all_known c));
   has_next = has_next;
 }
@@ -167,13 +167,13 @@ abbrev pub next_of : Course → List ℕ → Option Bool
 next_of c ts = elim c.awaited [ [] ↦ None | a ∷ rest ↦ elim ts [ [] ↦ Some (not (is_finished c)) | u ∷ us ↦ Some true ] ]
 
 -- one for each of these times
-abbrev pub later_payloads : Course → List ℕ → List Payload
-later_payloads c [] = []
-later_payloads c (t ∷ ts) = payload_at c t None [] (next_of c ts) ∷ later_payloads c ts
+abbrev pub payloads_from : Course → List ℕ → List Payload
+payloads_from c [] = []
+payloads_from c (t ∷ ts) = payload_at c t None [] (next_of c ts) ∷ payloads_from c ts
 
 -- the first has the value and the errors of the initial region
 abbrev pub payloads_of : RegionResult → Course → List Payload
-payloads_of r c = payload_at c 0 (Some (outcome_value r.outcome)) r.faults (next_of c (moments c)) ∷ later_payloads c (moments c)
+payloads_of r c = payload_at c 0 (Some (outcome_value r.outcome)) r.faults (next_of c (moments c)) ∷ payloads_from c (moments c)
 
 -- the payloads of a forest by a schedule
 abbrev pub payloads : Forest → Schedule → List Payload

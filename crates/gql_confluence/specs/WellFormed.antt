@@ -78,26 +78,26 @@ abbrev pub mark_at : Site → List Key → Option Mark
 mark_at x path = if is_prefix x.at path then flat (outcome_value x.region.outcome) (drop (length x.at) path) else None
 
 -- an object
-abbrev pub is_object : Option Mark → Bool
-is_object None = false
-is_object (Some object) = true
-is_object (Some _) = false
+abbrev pub shows_object : Option Mark → Bool
+shows_object None = false
+shows_object (Some object) = true
+shows_object (Some _) = false
 
 -- a list of so many items
-abbrev pub is_list_of : ℕ → Option Mark → Bool
-is_list_of n None = false
-is_list_of n (Some (list m)) = m == n
-is_list_of n (Some _) = false
+abbrev pub shows_list : ℕ → Option Mark → Bool
+shows_list n None = false
+shows_list n (Some (list m)) = m == n
+shows_list n (Some _) = false
 
 -- nothing
-abbrev pub is_absent : Option Mark → Bool
-is_absent None = true
-is_absent (Some m) = false
+abbrev pub shows_nothing : Option Mark → Bool
+shows_nothing None = true
+shows_nothing (Some m) = false
 
 -- no two of them meet the test
-abbrev pub apart : {X : Type 0} → (X → X → Bool) → List X → Bool
-apart same [] = true
-apart same (x ∷ xs) = not (list_any (same x) xs) && apart same xs
+abbrev pub no_two : {X : Type 0} → (X → X → Bool) → List X → Bool
+no_two same [] = true
+no_two same (x ∷ xs) = not (list_any (same x) xs) && no_two same xs
 
 -- each is greater than the one before
 abbrev pub ascending : List ℕ → Bool
@@ -150,11 +150,11 @@ has_owners g = elim g.owners [ [] ↦ false | o ∷ os ↦ ascending (map (λ o.
 
 -- an object of its region's value, and strictly below the beginning of a region that is no root
 abbrev pub stands_below : Site → Group → Bool
-stands_below x g = is_object (mark_at x g.path.keys) && (x.is_root || nat_lt (length x.at) (length g.path.keys))
+stands_below x g = shows_object (mark_at x g.path.keys) && (x.is_root || nat_lt (length x.at) (length g.path.keys))
 
 -- its object has none of its keys yet
 abbrev pub brings_new_keys : Site → Group → Bool
-brings_new_keys x g = list_all (λ k. is_absent (mark_at x (g.path.keys ++ Name k ∷ []))) (keys_of g)
+brings_new_keys x g = list_all (λ k. shows_nothing (mark_at x (g.path.keys ++ Name k ∷ []))) (keys_of g)
 
 -- one stands in both
 abbrev pub share_a_key : List (List ℕ) → List (List ℕ) → Bool
@@ -173,7 +173,7 @@ coincide x y = x.is_root && y.is_root && same_lists same_key x.at y.at
 
 -- the list stands in the region's value with its first items, and more are to come
 abbrev pub begins_a_list : Site → Stream → Bool
-begins_a_list x s = is_list_of s.first (mark_at x s.path.keys) && nat_lt s.first s.length
+begins_a_list x s = shows_list s.first (mark_at x s.path.keys) && nat_lt s.first s.length
 
 -- ---- regions
 
@@ -191,11 +191,11 @@ has_the_keys ks ms = list_all (λ m. list_any (bytes_eq m.name) ks) ms && list_a
 
 -- the value of a good region of a group is an object whose names are the keys of the group's fields
 abbrev pub has_its_fields : Site → Bool
-has_its_fields x = not (is_good x.region) || (if x.is_root then true else is_object (flat (outcome_value x.region.outcome) []) && has_the_keys x.keys (members_of (out-Value (outcome_value x.region.outcome))))
+has_its_fields x = not (is_good x.region) || (if x.is_root then true else shows_object (flat (outcome_value x.region.outcome) []) && has_the_keys x.keys (members_of (out-Value (outcome_value x.region.outcome))))
 
 -- its value is an object, if it has one
 abbrev pub is_object_if_good : RegionResult → Bool
-is_object_if_good r = not (is_good r) || is_object (flat (outcome_value r.outcome) [])
+is_object_if_good r = not (is_good r) || shows_object (flat (outcome_value r.outcome) [])
 
 -- ---- the whole
 
@@ -212,7 +212,7 @@ pub record IsWellFormed (f : Forest) : Type 0 where
   -- below each region are the regions of its tasks
   pub grows : AllByRecursion (λ x. x.works ≡ tasks_of x.region) (sites f)
   -- any two fragments differ in place or path; each has its parent around it, and parents form no cycle
-  pub fragments_apart : IsTrue (apart (λ x y. same_fragment x.id y.id) (flat_map (λ x. x.region.fragments) (sites f)))
+  pub fragments_apart : IsTrue (no_two (λ x y. same_fragment x.id y.id) (flat_map (λ x. x.region.fragments) (sites f)))
   pub parents : EachSite f (λ x. list_all (has_its_parent x) x.region.fragments)
   pub no_cycle : EachSite f (λ x. list_all (is_outermost_in_the_end x) x.region.fragments)
   -- a group has owners, in ascending order of place, around it, at prefixes of its path, none inside another
@@ -224,13 +224,13 @@ pub record IsWellFormed (f : Forest) : Type 0 where
   pub tied_parents : EachSite f (λ x. x.is_root || list_all (has_tied_parent x) x.region.fragments)
   pub tied_owners : EachSite f (λ x. x.is_root || list_all (λ g. list_all (is_tied x) g.owners) x.region.groups)
   -- two groups at one path differ in their owners and share no key, and a group's keys are new at its object
-  pub groups_apart : IsTrue (apart collide (sites f))
+  pub groups_apart : IsTrue (no_two collide (sites f))
   pub new_keys : EachSite f (λ x. list_all (brings_new_keys x) x.region.groups)
   -- a stream goes on with a list of its region, and no two streams with one
   pub streams_stand : EachSite f (λ x. list_all (begins_a_list x) x.region.streams)
-  pub streams_apart : IsTrue (apart (λ s t. same_path s.path t.path) (flat_map (λ x. x.region.streams) (sites f)))
+  pub streams_apart : IsTrue (no_two (λ s t. same_path s.path t.path) (flat_map (λ x. x.region.streams) (sites f)))
   -- no two items stand at one place (this follows from the two before and from the tasks of a stream)
-  pub items_apart : IsTrue (apart coincide (sites f))
+  pub items_apart : IsTrue (no_two coincide (sites f))
   -- a failed region has a fault, and a fault has a line and a column or neither
   pub blamed : EachSite f (λ x. is_blamed x.region)
   pub located : EachSite f (λ x. list_all is_located x.region.faults)

@@ -1,5 +1,5 @@
--- Forests of worked documents: what running the regions of each gives.
-use Rattle.std.specs.Prelude.{ℕ, pos, List, [], ◌∷◌, ◌++◌, map, Some, None, codes}
+-- Forests of worked documents, what running the regions of each gives; and two schedules.
+use Rattle.std.specs.Prelude.{ℕ, ◌-◌, pos, List, [], ◌∷◌, ◌++◌, map, Some, None, codes}
 use Rattle.gql_tree.specs.declared.path.Key.{Key}
 use Rattle.gql_tree.specs.declared.path.Key.TheVariants.{Name, Index}
 use Rattle.gql_tree.specs.declared.value.Value.{Value}
@@ -13,6 +13,7 @@ use Rattle.gql_tree.specs.declared.delivery.RegionResult.{RegionResult}
 use Rattle.gql_tree.specs.declared.delivery.TaskWork.TheVariants.{Fields, Item}
 use Rattle.gql_tree.specs.WorkedForests.{one_member, hero, fragment, labelled, ended, waiting, crew}
 use Rattle.gql_tree.specs.Forest.{Forest, grown, none, more}
+use Rattle.gql_confluence.specs.Course.{Schedule}
 
 -- a text
 abbrev pub text : List ℕ → Value
@@ -307,3 +308,21 @@ stream_in_a_fragment =
     grown (waiting (labelled 3 (codes "A") None ∷ labelled 7 (codes "B") None ∷ []) (friends_of_a ∷ age_of_both ∷ []))
     (more (Fields friends_of_a) (grown (streaming (codes "friends") [] friends_stream) (more (Item friends_stream 0) (grown (failed_by bang_friend) none) none))
     (more (Fields age_of_both) (grown age_20 none) none))
+
+-- ---- schedules
+
+-- all is done with the first payload
+abbrev pub done_at_the_start : Schedule
+done_at_the_start = record {
+  fragment_done = λ id t xs. Some 0;
+  item_released = λ s i t xs. Some 0;
+  stream_done = λ s t xs. Some 0;
+}
+
+-- the last of three items comes first
+abbrev pub items_backwards : Schedule
+items_backwards = record {
+  fragment_done = λ id t xs. Some 3;
+  item_released = λ s i t xs. Some (3 - i);
+  stream_done = λ s t xs. Some 3;
+}

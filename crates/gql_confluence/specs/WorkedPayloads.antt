@@ -10,7 +10,7 @@ use Rattle.gql_tree.specs.declared.delivery.Entry.{Entry}
 use Rattle.gql_tree.specs.declared.delivery.Completed.{Completed}
 use Rattle.gql_tree.specs.declared.delivery.Content.TheVariants.{Fields, Items}
 use Rattle.gql_tree.specs.declared.delivery.Payload.{Payload}
-use Rattle.gql_tree.specs.WorkedForests.{one_member, hero, crew}
+use Rattle.gql_tree.specs.WorkedForests.{one_member, hero, crew, bang}
 use Rattle.gql_confluence.specs.WorkedDocuments.{text, age, named, bang_at, null_at, boom_path, bang_x, bang_boom, cast, at_item, crew_null, null_name, friends, bang_friend}
 
 -- ---- parts of payloads
@@ -121,6 +121,13 @@ failed_item_payloads =
     first (one_member (codes "crew") (v.List (named (codes "Luke") ∷ []))) (opening 0 crew None ∷ [])
     ∷ later [] (items 0 (named (codes "Leia") ∷ []) [] ∷ []) [] true
     ∷ later [] [] (closing 0 (crew_null 34 ∷ []) ∷ []) false ∷ []
+
+-- the third item has ended first, and isn't delivered, since the second failed
+abbrev pub behind_a_failed_one_payloads : List Payload
+behind_a_failed_one_payloads =
+    first (one_member (codes "crew") (v.List (text (codes "Luke") ∷ []))) (opening 0 crew (Some (codes "S")) ∷ [])
+    ∷ later [] (items 0 (text (codes "Leia") ∷ []) [] ∷ []) [] true
+    ∷ later [] [] (closing 0 (bang ∷ []) ∷ []) false ∷ []
 
 -- the stream goes on, with null and an error
 abbrev pub null_item_payloads : List Payload

@@ -1,13 +1,14 @@
 //! Laws of the payloads, each the contract of a function that does nothing.
 
 ghost use Rattle.std.specs.Prelude.{◌≡◌, [], ◌∷◌, true, false};
+ghost use Rattle.gql_tree.specs.WorkedForests.{streamed};
 ghost use Rattle.gql_confluence.specs.Payloads.{payloads};
 ghost use Rattle.gql_confluence.specs.Numbering.{times, is_order, is_complete, inline_order};
 ghost use Rattle.gql_confluence.specs.WellFormed.{IsWellFormed};
 ghost use Rattle.gql_confluence.specs.Lawful.{IsLawful};
 ghost use Rattle.gql_confluence.specs.Confluence.{ConfluenceWithoutStreams, IdsAreCompleted, CompleteOrdersAreLawful};
-ghost use Rattle.gql_confluence.specs.WorkedDocuments.{empty_fragment, empty_around_another, deferred_at_the_top, one_shared_group, inside_a_failed_one, two_that_fail, failed_item, null_item, whole_list, fragments_in_items, stream_in_a_fragment};
-ghost use Rattle.gql_confluence.specs.WorkedPayloads.{empty_fragment_payloads, empty_around_another_payloads, deferred_at_the_top_payloads, a_first, b_first, both_together, inside_a_failed_one_payloads, failed_together, failed_b_first, failed_item_payloads, null_item_payloads, from_the_last, fragments_in_items_payloads, stream_in_a_fragment_payloads};
+ghost use Rattle.gql_confluence.specs.WorkedDocuments.{empty_fragment, empty_around_another, deferred_at_the_top, one_shared_group, inside_a_failed_one, two_that_fail, failed_item, null_item, whole_list, fragments_in_items, stream_in_a_fragment, done_at_the_start, items_backwards};
+ghost use Rattle.gql_confluence.specs.WorkedPayloads.{behind_a_failed_one_payloads, empty_fragment_payloads, empty_around_another_payloads, deferred_at_the_top_payloads, a_first, b_first, both_together, inside_a_failed_one_payloads, failed_together, failed_b_first, failed_item_payloads, null_item_payloads, from_the_last, fragments_in_items_payloads, stream_in_a_fragment_payloads};
 
 /// The payloads of worked documents with deferred fragments, by the order in which their tasks end.
 pub fn payloads_of_fragments()
@@ -28,6 +29,7 @@ pub fn payloads_of_fragments()
 /// The payloads of worked documents with streams.
 pub fn payloads_of_streams()
     ensures failed_item { payloads failed_item (times failed_item (0 ∷ 1 ∷ [])) ≡ failed_item_payloads }
+    ensures behind_a_failed_one { payloads streamed (times streamed (2 ∷ 0 ∷ 1 ∷ [])) ≡ behind_a_failed_one_payloads }
     ensures null_item { payloads null_item (times null_item (0 ∷ 1 ∷ [])) ≡ null_item_payloads }
     ensures from_the_last { payloads whole_list (times whole_list (2 ∷ 1 ∷ 0 ∷ [])) ≡ from_the_last }
     ensures fragments_in_items { payloads fragments_in_items (times fragments_in_items (0 ∷ 1 ∷ 2 ∷ 3 ∷ 4 ∷ [])) ≡ fragments_in_items_payloads }
@@ -56,6 +58,13 @@ pub fn worked_orders_are_lawful()
     ensures shared_0_2_1 { IsLawful one_shared_group (times one_shared_group (0 ∷ 2 ∷ 1 ∷ [])) }
     ensures in_items { IsLawful fragments_in_items (times fragments_in_items (0 ∷ 1 ∷ 2 ∷ 3 ∷ 4 ∷ [])) }
     ensures stream_in_a_fragment { IsLawful stream_in_a_fragment (times stream_in_a_fragment (0 ∷ 2 ∷ 1 ∷ [])) }
+{}
+
+/// Schedules that aren't lawful: one by which a fragment is done with the first payload, and one by which an item comes
+/// before the one in front of it.
+pub fn schedules_that_are_not_lawful()
+    ensures done_at_the_start { IsLawful one_shared_group done_at_the_start → ⊥ }
+    ensures backwards { IsLawful whole_list items_backwards → ⊥ }
 {}
 
 /// A client that is sent the payloads of a well-formed forest without streams by a lawful schedule, up to the order of

@@ -15,3 +15,6 @@ returns-clause-fragments_in_items c = refl
 
 pub returns-clause-stream_in_a_fragment : goal.returns-clause-stream_in_a_fragment
 returns-clause-stream_in_a_fragment c = refl
+
+pub returns-clause-behind_a_failed_one : goal.returns-clause-behind_a_failed_one
+returns-clause-behind_a_failed_one c = refl
