@@ -14,10 +14,10 @@ use Rattle.gql_merge.specs.Order.{Sorts, fault_cmp}
 use Rattle.gql_merge.specs.Apply.{fresh}
 use Rattle.gql_merge.proofs.Merging.{Merges, typed_value, merged_by}
 use Rattle.gql_merge.proofs.Served.{IsServed}
-use Rattle.gql_confluence.specs.Course.{Schedule, Arrival, course}
-use Rattle.gql_confluence.specs.Payloads.{payloads}
-use Rattle.gql_confluence.specs.WellFormed.{IsWellFormed, HasNoItems, HasNoStreams}
-use Rattle.gql_confluence.specs.Lawful.{IsLawful}
+use Rattle.gql_tree.specs.Course.{Schedule, Arrival, course}
+use Rattle.gql_tree.specs.Payloads.{payloads}
+use Rattle.gql_tree.specs.WellFormed.{IsWellFormed, HasNoItems, HasNoStreams}
+use Rattle.gql_tree.specs.Lawful.{IsLawful}
 use Rattle.gql_confluence.specs.Confluence.{HasFewIds, ConfluenceWithoutStreams}
 use Rattle.gql_confluence.proofs.Parts.{In}
 use Rattle.gql_confluence.proofs.Lists.{in_map, to_map}

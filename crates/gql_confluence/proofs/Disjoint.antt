@@ -7,7 +7,7 @@ use Rattle.gql_tree.specs.declared.value.Value.{Value}
 use Rattle.gql_tree.specs.Flat.{Mark, object, flat}
 use Rattle.gql_tree.specs.FirstPayloads.{outcome_value}
 use Rattle.gql_tree.specs.Merged.{Part}
-use Rattle.gql_confluence.specs.WellFormed.{Site}
+use Rattle.gql_tree.specs.WellFormed.{Site}
 use Rattle.gql_confluence.proofs.Parts.{In, in_left, in_cases, HasAt, Agree}
 use Rattle.gql_confluence.proofs.Deciders.{two_prefixes}
 use Rattle.gql_confluence.proofs.Values.{flat_above}

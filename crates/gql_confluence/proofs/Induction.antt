@@ -24,9 +24,9 @@ use Rattle.gql_merge.specs.Order.{Sorts, fault_cmp, failure_cmp}
 use Rattle.gql_merge.specs.Apply.{begun, failed, faults_of, is_last, is_some_open, fresh}
 use Rattle.gql_merge.proofs.Taken.{IsTaken}
 use Rattle.gql_merge.proofs.Served.{IsServed, served_none, served_more, taken_as}
-use Rattle.gql_confluence.specs.Times.{Time, is_at, has_time}
-use Rattle.gql_confluence.specs.Course.{Awaited, Way, Arrival, Course}
-use Rattle.gql_confluence.specs.Payloads.{Known, known_from, all_known, awaited_cmp, pending_of, completed_of, Standing, standing_cmp, group_entries, entries_of, arrivals_at, value_at, payload_at, noted_all, moments, is_finished, next_of, payloads_from, payloads_of}
+use Rattle.gql_tree.specs.Times.{Time, is_at, has_time}
+use Rattle.gql_tree.specs.Course.{Awaited, Way, Arrival, Course}
+use Rattle.gql_tree.specs.Payloads.{Known, known_from, all_known, awaited_cmp, pending_of, completed_of, Standing, standing_cmp, group_entries, entries_of, arrivals_at, value_at, payload_at, noted_all, moments, is_finished, next_of, payloads_from, payloads_of}
 use Rattle.gql_confluence.proofs.Parts.{In, in_left, in_right, in_cases, HasAt, Shows}
 use Rattle.gql_confluence.proofs.Accepted.{begins_Ok, AllNew, awaited_of, AllOpen, still_open, failed_of, Fits, IsFitting, Led, taken}
 use Rattle.gql_confluence.proofs.Sorted.{flat_ordered}

@@ -23,9 +23,9 @@ use Rattle.gql_merge.specs.Order.{Sorts, fault_cmp, failure_cmp}
 use Rattle.gql_merge.specs.Apply.{begun, failed, faults_of, is_last, is_some_open, fresh, opened}
 use Rattle.gql_merge.proofs.Taken.{IsTaken}
 use Rattle.gql_merge.proofs.Served.{IsServed, served_none, served_more, taken_as}
-use Rattle.gql_confluence.specs.Times.{Time, is_at, has_time}
-use Rattle.gql_confluence.specs.Course.{Awaited, Way, Arrival, Course, at_first, by_owners, by_stream}
-use Rattle.gql_confluence.specs.Payloads.{Known, known_from, all_known, awaited_cmp, pending_of, completed_of, Standing, standing_cmp, group_entries, is_item_of, items_entry, stream_entries, entries_of, arrivals_at, value_at, payload_at, noted_all, moments, is_finished, next_of, payloads_from, payloads_of}
+use Rattle.gql_tree.specs.Times.{Time, is_at, has_time}
+use Rattle.gql_tree.specs.Course.{Awaited, Way, Arrival, Course, at_first, by_owners, by_stream}
+use Rattle.gql_tree.specs.Payloads.{Known, known_from, all_known, awaited_cmp, pending_of, completed_of, Standing, standing_cmp, group_entries, is_item_of, items_entry, stream_entries, entries_of, arrivals_at, value_at, payload_at, noted_all, moments, is_finished, next_of, payloads_from, payloads_of}
 use Rattle.gql_confluence.proofs.Parts.{In, in_left, in_right, in_cases, HasAt}
 use Rattle.gql_confluence.proofs.Lengths.{Setting, ShowsSet}
 use Rattle.gql_tree.specs.Keys.{same_lists, same_key}

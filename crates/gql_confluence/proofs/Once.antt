@@ -12,10 +12,10 @@ use Rattle.gql_tree.specs.declared.delivery.Payload.{Payload}
 use Rattle.gql_tree.specs.declared.delivery.RegionResult.{RegionResult}
 use Rattle.gql_tree.specs.Forest.{region}
 use Rattle.gql_tree.specs.FirstPayloads.{outcome_value}
-use Rattle.gql_confluence.specs.Times.{Time, is_at}
-use Rattle.gql_confluence.specs.Course.{Awaited, Course, course}
-use Rattle.gql_confluence.specs.Payloads.{Known, all_known, pending_of, completed_of, payload_at, moments, next_of, payloads_from, payloads_of}
-use Rattle.gql_confluence.specs.Lawful.{is_done_in_time}
+use Rattle.gql_tree.specs.Times.{Time, is_at}
+use Rattle.gql_tree.specs.Course.{Awaited, Course, course}
+use Rattle.gql_tree.specs.Payloads.{Known, all_known, pending_of, completed_of, payload_at, moments, next_of, payloads_from, payloads_of}
+use Rattle.gql_tree.specs.Lawful.{is_done_in_time}
 use Rattle.gql_confluence.specs.Confluence.{announced_ids, completed_ids, HasOneRecord, IdsAreCompleted}
 use Rattle.gql_confluence.proofs.Parts.{In, in_left, in_right}
 use Rattle.gql_confluence.proofs.Lists.{in_filter, in_map, to_map, all_at}

@@ -22,7 +22,7 @@ use Rattle.gql_tree.specs.Flat.{Mark, object, flat, members_of}
 use Rattle.gql_tree.specs.Forest.{Forest, Branches, grown, none, more, numbers, items_to_come, tasks_of}
 use Rattle.gql_tree.specs.FirstPayloads.{outcome_value}
 use Rattle.gql_tree.specs.Fate.{is_good, Scope, scope_of}
-use Rattle.gql_confluence.specs.WellFormed.{Site, works_of, root_site, keys_of, sites_below, sites, is_prefix, mark_at, shows_object, shows_nothing, no_two, stands_below, brings_new_keys, share_a_key, collide, has_the_keys, has_its_fields, IsWellFormed, HasNoItems}
+use Rattle.gql_tree.specs.WellFormed.{Site, works_of, root_site, keys_of, sites_below, sites, is_prefix, mark_at, shows_object, shows_nothing, no_two, stands_below, brings_new_keys, share_a_key, collide, has_the_keys, has_its_fields, IsWellFormed, HasNoItems}
 use Rattle.gql_confluence.proofs.Parts.{In, in_left, in_right, in_cases, HasAt}
 use Rattle.gql_confluence.proofs.Lists.{and_left, in_map, in_flat, all_at, any_at, to_any}
 use Rattle.gql_confluence.proofs.Deciders.{same_keys-refl, prefix_drop, prefix_of, drop_of}

@@ -19,7 +19,7 @@ use Rattle.gql_tree.specs.Keys.{same_lists, same_key}
 use Rattle.gql_tree.specs.Flat.{Mark, null, truth, integer, text, object, list, mark_of, flat, members_of}
 use Rattle.gql_tree.specs.Forest.{Forest, Branches, grown, none, more, numbers, items_to_come, tasks_of}
 use Rattle.gql_tree.specs.Fate.{is_good, Scope, scope_of}
-use Rattle.gql_confluence.specs.WellFormed.{Site, works_of, root_site, keys_of, sites_below, sites, mark_at, shows_object, no_two, share_a_key, collide, coincide, shows_list, begins_a_list, has_the_keys, has_its_fields, IsWellFormed}
+use Rattle.gql_tree.specs.WellFormed.{Site, works_of, root_site, keys_of, sites_below, sites, mark_at, shows_object, no_two, share_a_key, collide, coincide, shows_list, begins_a_list, has_the_keys, has_its_fields, IsWellFormed}
 use Rattle.gql_confluence.proofs.Parts.{In, in_left, in_right, in_cases}
 use Rattle.gql_confluence.proofs.Lists.{and_left, in_map, in_flat, all_at, to_any}
 use Rattle.gql_confluence.proofs.Deciders.{same_keys-refl, prefix_drop}

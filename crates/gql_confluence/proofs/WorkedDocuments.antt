@@ -1,7 +1,7 @@
 -- The worked forests are well formed.
 use Rattle.std.proofs.Common.{refl}
 use Rattle.gql_tree.specs.declared.value.Value.TheVariants.{outs-List, outs-Object}
-use Rattle.gql_confluence.specs.WellFormed.{IsWellFormed}
+use Rattle.gql_tree.specs.WellFormed.{IsWellFormed}
 use Rattle.gql_confluence.specs.WorkedDocuments.{one_shared_group, fragments_in_items}
 
 pub one_shared_group_well_formed : IsWellFormed one_shared_group

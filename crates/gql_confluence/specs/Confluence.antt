@@ -7,11 +7,11 @@ use Rattle.gql_merge.specs.declared.state.State.{State}
 use Rattle.gql_merge.specs.declared.refusal.MergeRefusal.{MergeRefusal}
 use Rattle.gql_merge.specs.Same.{IsTypedState}
 use Rattle.gql_merge.specs.Merging.{SamePayloads, Hears, HasMerged}
-use Rattle.gql_confluence.specs.Course.{Schedule, course}
-use Rattle.gql_confluence.specs.Payloads.{payloads}
-use Rattle.gql_confluence.specs.Numbering.{times, is_complete}
-use Rattle.gql_confluence.specs.WellFormed.{IsWellFormed, HasNoStreams}
-use Rattle.gql_confluence.specs.Lawful.{IsLawful}
+use Rattle.gql_tree.specs.Course.{Schedule, course}
+use Rattle.gql_tree.specs.Payloads.{payloads}
+use Rattle.gql_tree.specs.Numbering.{times, is_complete}
+use Rattle.gql_tree.specs.WellFormed.{IsWellFormed, HasNoStreams}
+use Rattle.gql_tree.specs.Lawful.{IsLawful}
 
 -- fewer than 2 ^ 64 ids are given; an id is a number in decimal, and numbers below 2 ^ 64 have different texts
 abbrev pub HasFewIds : Forest → Schedule → Type 0

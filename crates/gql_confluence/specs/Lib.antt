@@ -1,9 +1,3 @@
-pub mod Times
-pub mod Course
-pub mod Payloads
-pub mod Numbering
-pub mod WellFormed
-pub mod Lawful
 pub mod Confluence
 pub mod WorkedDocuments
 pub mod WorkedPayloads

@@ -13,7 +13,7 @@ use Rattle.gql_tree.specs.declared.delivery.RegionResult.{RegionResult}
 use Rattle.gql_tree.specs.declared.delivery.TaskWork.TheVariants.{Fields, Item}
 use Rattle.gql_tree.specs.WorkedForests.{one_member, hero, fragment, labelled, ended, waiting, crew}
 use Rattle.gql_tree.specs.Forest.{Forest, grown, none, more}
-use Rattle.gql_confluence.specs.Course.{Schedule}
+use Rattle.gql_tree.specs.Course.{Schedule}
 
 -- a text
 abbrev pub text : List ℕ → Value

@@ -2,10 +2,10 @@
 
 ghost use Rattle.std.specs.Prelude.{◌≡◌, [], ◌∷◌, true, false};
 ghost use Rattle.gql_tree.specs.WorkedForests.{streamed};
-ghost use Rattle.gql_confluence.specs.Payloads.{payloads};
-ghost use Rattle.gql_confluence.specs.Numbering.{times, is_order, is_complete, inline_order};
-ghost use Rattle.gql_confluence.specs.WellFormed.{IsWellFormed};
-ghost use Rattle.gql_confluence.specs.Lawful.{IsLawful};
+ghost use Rattle.gql_tree.specs.Payloads.{payloads};
+ghost use Rattle.gql_tree.specs.Numbering.{times, is_order, is_complete, inline_order};
+ghost use Rattle.gql_tree.specs.WellFormed.{IsWellFormed};
+ghost use Rattle.gql_tree.specs.Lawful.{IsLawful};
 ghost use Rattle.gql_confluence.specs.Confluence.{ConfluenceWithoutStreams, IdsAreCompleted, CompleteOrdersAreLawful};
 ghost use Rattle.gql_confluence.specs.WorkedDocuments.{empty_fragment, empty_around_another, deferred_at_the_top, one_shared_group, inside_a_failed_one, two_that_fail, failed_item, null_item, whole_list, fragments_in_items, stream_in_a_fragment, done_at_the_start, items_backwards};
 ghost use Rattle.gql_confluence.specs.WorkedPayloads.{behind_a_failed_one_payloads, empty_fragment_payloads, empty_around_another_payloads, deferred_at_the_top_payloads, a_first, b_first, both_together, inside_a_failed_one_payloads, failed_together, failed_b_first, failed_item_payloads, null_item_payloads, from_the_last, fragments_in_items_payloads, stream_in_a_fragment_payloads};

@@ -10,9 +10,9 @@ use Rattle.gql_tree.specs.declared.delivery.TaskWork.TheVariants.{Fields, Item}
 use Rattle.gql_tree.specs.Order.{group_cmp, stream_cmp}
 use Rattle.gql_tree.specs.Ordered.{ordered}
 use Rattle.gql_tree.specs.Forest.{Forest, Branches, grown, none, more, branches, numbers}
-use Rattle.gql_confluence.specs.Times.{Time, latest_of}
-use Rattle.gql_confluence.specs.Course.{Schedule, course}
-use Rattle.gql_confluence.specs.Payloads.{is_finished}
+use Rattle.gql_tree.specs.Times.{Time, latest_of}
+use Rattle.gql_tree.specs.Course.{Schedule, course}
+use Rattle.gql_tree.specs.Payloads.{is_finished}
 
 -- the order of the tasks that one region makes: groups in group order, then items by stream path and index
 abbrev pub work_cmp : TaskWork → TaskWork → Ordering

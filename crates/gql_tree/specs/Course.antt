@@ -19,7 +19,7 @@ use Rattle.gql_tree.specs.declared.delivery.TaskWork.TheVariants.{Fields, Item}
 use Rattle.gql_tree.specs.Forest.{Forest, Branches, grown, none, more}
 use Rattle.gql_tree.specs.Fate.{is_good, GroupRun, ItemRun, Scope, scope_of, groups_of, is_empty, above, is_ok, is_delivered, is_announced, items_run, items_of_stream, is_item_delivered}
 use Rattle.gql_tree.specs.Merged.{errors_of, first_failure}
-use Rattle.gql_confluence.specs.Times.{Time, earliest_of, same_time}
+use Rattle.gql_tree.specs.Times.{Time, earliest_of, same_time}
 
 -- when a fragment or a stream is done and when an item is released, told by the time of the announcement and by the regions waited for
 pub record Schedule : Type 0 where

@@ -4,8 +4,8 @@ use Rattle.std.specs.Prelude.{nat_le, Bool, false, ◌&&◌, List, [], ◌∷◌
 use Rattle.std.specs.List.{list_all}
 use Rattle.gql_tree.specs.Forest.{Forest}
 use Rattle.gql_tree.specs.Fate.{same_path}
-use Rattle.gql_confluence.specs.Times.{Time}
-use Rattle.gql_confluence.specs.Course.{Schedule, Awaited, at_first, by_owners, by_stream, Arrival, Course, course}
+use Rattle.gql_tree.specs.Times.{Time}
+use Rattle.gql_tree.specs.Course.{Schedule, Awaited, at_first, by_owners, by_stream, Arrival, Course, course}
 
 -- both have a time, and the second isn't earlier
 abbrev pub is_not_after : Time → Time → Bool
