@@ -2,7 +2,7 @@
 .PHONY: demo build test clean
 
 EXAMPLE = local data/schema.graphql data/tables.json data/document.graphql - 0 7
-CRATES = gql_tree gql_io gql_model gql_payload gql_multipart gql_merge gql_client gql_lex gql_doc gql_bench gql_tool gql_run
+CRATES = gql_tree gql_io gql_model gql_payload gql_multipart gql_merge gql_confluence gql_client gql_lex gql_doc gql_bench gql_tool gql_run
 
 # The example request over the example files: its first fields, and then those that were deferred.
 demo:

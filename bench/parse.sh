@@ -34,7 +34,7 @@ document() {
 # beyond those for $2
 measure() {
     python3 - "$program" "$1" "$2" <<'PY'
-import os, subprocess, sys, time
+import subprocess, sys, time
 program, document, least = sys.argv[1:]
 
 def run(name, times):
@@ -42,11 +42,15 @@ def run(name, times):
     subprocess.run([program, name, str(times)], check=True, stdout=subprocess.DEVNULL)
     return time.perf_counter() - start
 
+# the most that the process held, looked at until it ends; what wait4 tells has what Python held before it became the program
 def held(name):
-    child = subprocess.Popen([program, name, '1'], stdout=subprocess.DEVNULL)
-    _, status, usage = os.wait4(child.pid, 0)
-    assert status == 0
-    return usage.ru_maxrss * 1024
+    child = subprocess.Popen([program, name, '5'], stdout=subprocess.DEVNULL)
+    most = 0
+    while child.poll() is None:
+        with open(f'/proc/{child.pid}/status') as status:
+            most = max([most] + [int(line.split()[1]) for line in status if line.startswith('VmHWM')])
+    assert child.returncode == 0
+    return most * 1024
 
 times = 1
 while run(document, times + 1) < 0.3:
@@ -90,16 +94,25 @@ console.log((Buffer.byteLength(text) / best * 1e3).toFixed(2));
 JS
 }
 
+# gqlparser, built of Debian's golang-github-vektah-gqlparser-dev
+gqlparser() {
+    [ -x "$work/gqlparser" ] || { echo -; return; }
+    "$work/gqlparser" "$1" 2> /dev/null || echo -
+}
+
+if command -v go > /dev/null; then
+    (cd "$top/bench/gqlparser" && GOFLAGS=-mod=mod GOPROXY=off GOCACHE=$work/cache go build -o "$work/gqlparser" . > /dev/null 2>&1) || true
+fi
 printf '{a}' > "$work/least"
-echo "kind bytes microseconds MB/s cold-MB/s memory/byte graphql-core GraphQL.js times"
+echo "kind bytes microseconds MB/s cold-MB/s memory/byte graphql-core gqlparser GraphQL.js times"
 for kind in flat deep fragments strings; do
     for size in 1000 10000 100000 1000000; do
         document "$kind" "$size" > "$work/document"
         bytes=$(wc -c < "$work/document")
-        awk -v k="$kind" -v b="$bytes" -v m="$(measure "$work/document" "$work/least")" -v c="$(core "$work/document")" \
+        awk -v k="$kind" -v b="$bytes" -v m="$(measure "$work/document" "$work/least")" -v c="$(core "$work/document")" -v g="$(gqlparser "$work/document")" \
             -v p="$(javascript "$work/document")" -v y="$(javascript "$work/document" --single-threaded --max-semi-space-size=256)" \
             'BEGIN { split(m, a, " "); j = (p + 0 > y + 0 ? p : y); r = b / a[1] * 1e3;
-                printf "%s %d %.1f %.1f %s %s %s %s %s\n", k, b, a[1] / 1e3, r, (a[2] > 200000 ? sprintf("%.1f", b / a[2] * 1e3) : "-"),
-                    (a[3] > 0 ? sprintf("%.1f", a[3] / b) : "-"), c, (j + 0 > 0 ? j : "-"), (j + 0 > 0 ? sprintf("%.1f", r / j) : "-") }'
+                printf "%s %d %.1f %.1f %s %s %s %s %s %s\n", k, b, a[1] / 1e3, r, (a[2] > 200000 ? sprintf("%.1f", b / a[2] * 1e3) : "-"),
+                    (a[3] > 0 ? sprintf("%.1f", a[3] / b) : "-"), c, g, (j + 0 > 0 ? j : "-"), (j + 0 > 0 ? sprintf("%.1f", r / j) : "-") }'
     done
 done
