@@ -33,3 +33,8 @@ pub mod Received
 pub mod InductionAll
 pub mod ItemTimes
 pub mod ScopesAll
+pub mod Earliest
+pub mod NoTwo
+pub mod Places
+pub mod OwnersAll
+pub mod BroughtAll

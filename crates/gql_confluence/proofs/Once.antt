@@ -22,7 +22,7 @@ use Rattle.gql_confluence.proofs.Lists.{in_filter, in_map, to_map, all_at}
 use Rattle.gql_confluence.proofs.Moments.{Later, later_all, due_all}
 use Rattle.gql_confluence.proofs.Knowns.{Numbered, numbered_at, all_numbered, is_awaited, same_known, few_numbers, one_decimal}
 use Rattle.gql_confluence.proofs.Soundness.{IsTimed}
-use Rattle.gql_confluence.proofs.Owners.{timed_of}
+use Rattle.gql_confluence.proofs.Earliest.{timed_of}
 use Rattle.gql_confluence.proofs.Confluent.{contains_in}
 
 -- ---- counting ids

@@ -67,7 +67,7 @@ module _ (f : Forest) (wf : IsWellFormed f) where
   item_fields : (s : Stream) (i : ℕ) (g : Group) → Item s i ≡ Fields g → ⊥
   item_fields s i g e = cc
 
-  listed_item : (r : RegionResult) (st : Stream) (n : ℕ) → In (Item st n) (tasks_of r) → In st r.streams × (st.first ≤ n)
+  pub listed_item : (r : RegionResult) (st : Stream) (n : ℕ) → In (Item st n) (tasks_of r) → In st r.streams × (st.first ≤ n)
   listed_item r st n i = by (in_cases (Item st n) (map Fields r.groups) (flat_map items_to_come r.streams) i) where
     by : In (Item st n) (map Fields r.groups) ⊎ In (Item st n) (flat_map items_to_come r.streams) → In st r.streams × (st.first ≤ n)
     by (inl j) = let m = in_map Fields (Item st n) r.groups j in absurd (item_fields st n m.0 m.2)
