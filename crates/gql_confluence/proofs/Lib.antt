@@ -38,3 +38,5 @@ pub mod NoTwo
 pub mod Places
 pub mod OwnersAll
 pub mod BroughtAll
+pub mod Items
+pub mod Awaits

@@ -1,5 +1,5 @@
 -- Lists in which no two elements meet a test.
-use Rattle.std.proofs.Common.{◌≡◌, inl, inr, List, [], ◌∷◌, ◌++◌, map, refl, sym, subst, ◌∙◌, ap, Bool, true, false}
+use Rattle.std.proofs.Common.{◌≡◌, ◌⊎◌, inl, inr, List, [], ◌∷◌, ◌++◌, map, refl, sym, subst, ◌∙◌, ap, Bool, true, false}
 use Rattle.std.specs.Prelude.{not, ◌&&◌, flat_map}
 use Rattle.std.specs.List.{list_any}
 use Rattle.gql_tree.specs.WellFormed.{no_two}
@@ -35,6 +35,18 @@ module _ {Y : Type 0} (t : Y → Y → Bool) where
       let k = and_left (not (list_any (t z) (xs ++ ys))) (no_two t (xs ++ ys)) h in
       ap (λ w. t w y) e ∙ not_any (t z) (xs ++ ys) k.0 y (in_right y xs ys j)
   no_two_cross (z ∷ xs) ys h x y (inr i) j = no_two_cross xs ys (and_left _ (no_two t (xs ++ ys)) h).1 x y i j
+
+  -- without a part in the middle
+  pub no_two_drop : (xs ys zs : List Y) → no_two t (xs ++ (ys ++ zs)) ≡ true → no_two t (xs ++ zs) ≡ true
+  no_two_drop [] ys zs h = no_two_right ys zs h
+  no_two_drop (x ∷ xs) ys zs h =
+      let k = and_left (not (list_any (t x) (xs ++ (ys ++ zs)))) (no_two t (xs ++ (ys ++ zs))) h in
+      let here : not (list_any (t x) (xs ++ zs)) ≡ true = to_not_any (t x) (xs ++ zs) (λ y i. not_any (t x) (xs ++ (ys ++ zs)) k.0 y (wider y (in_cases y xs zs i))) in
+      rw (here, no_two_drop xs ys zs k.1) refl
+    where
+      wider : (y : Y) → In y xs ⊎ In y zs → In y (xs ++ (ys ++ zs))
+      wider y (inl i) = in_left y xs (ys ++ zs) i
+      wider y (inr i) = in_right y xs (ys ++ zs) (in_right y ys zs i)
 
   clash : (a b : Y) → t a b ≡ true → t a b ≡ false → ⊥
   clash a b e f = cc
