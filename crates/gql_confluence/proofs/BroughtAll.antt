@@ -17,7 +17,7 @@ use Rattle.gql_tree.specs.declared.delivery.RegionResult.{RegionResult}
 use Rattle.gql_tree.specs.declared.delivery.TaskWork.{TaskWork}
 use Rattle.gql_tree.specs.declared.delivery.TaskWork.TheVariants.{Fields, Item}
 use Rattle.gql_tree.specs.Keys.{same_fragment}
-use Rattle.gql_tree.specs.Flat.{object}
+use Rattle.gql_tree.specs.Flat.{object, list, flat}
 use Rattle.gql_tree.specs.Order.{path_cmp}
 use Rattle.gql_tree.specs.Forest.{Forest, Branches, grown, none, more, tasks_of}
 use Rattle.gql_tree.specs.Fate.{is_good, GroupRun, ItemRun, Scope, scope_of, groups_below, fragments_below, has_owner, groups_of, is_empty, all_good, above, is_ok, is_delivered, is_announced, items_run, is_item_delivered}
@@ -33,9 +33,9 @@ use Rattle.gql_confluence.proofs.Deciders.{fragment_same, same_fragment-refl, sa
 use Rattle.gql_confluence.proofs.Orders.{keys_total}
 use Rattle.gql_confluence.proofs.Soundness.{part_of}
 use Rattle.gql_confluence.proofs.SoundnessAll.{goes_to, is_item_at, items_at, StandsBy}
-use Rattle.gql_confluence.proofs.Disjoint.{part_in, Proper, IsBelow, IsReady}
+use Rattle.gql_confluence.proofs.Disjoint.{value_in, part_in, Proper, IsBelow, IsReady}
 use Rattle.gql_confluence.proofs.Sites.{all_rec_at, listed, is_ready, is_below}
-use Rattle.gql_confluence.proofs.SitesAll.{listed_item}
+use Rattle.gql_confluence.proofs.SitesAll.{listed_item, no_first_list}
 use Rattle.gql_confluence.proofs.Earliest.{IsEarliest, earliest_in}
 use Rattle.gql_confluence.proofs.ItemTimes.{IsInTime, item_in_time}
 use Rattle.gql_confluence.proofs.Places.{Placed, root_place, group_place, places_below, all, is_site, one_fragment}
@@ -71,6 +71,7 @@ pub record IsFirst (q : Placed) : Type 0 where
   pub at : q.site.at ≡ []
   pub root : q.site.is_root ≡ true
   pub when : q.arrival.released ≡ Some 0
+  pub no_list : (n : ℕ) → flat (value_in q.site) [] ≡ Some (list n) → ⊥
 
 pub record IsGroup (q : Placed) : Type 0 where
   pub group : Group
@@ -162,7 +163,10 @@ module _ (r0 : RegionResult) (bs0 : Branches) (wf : IsWellFormed (grown r0 bs0))
     pub part : part_of place.arrival ≡ part_in place.site
     pub kind : Kind place
     pub ready : IsReady place.site
-    pub came : IsFirst place ⊎ (GroupComes x ⊎ ItemComes x)
+
+  pub record ComesLater (x : Arrival) : Type 0 where
+    pub comes : Comes x
+    pub came : GroupComes x ⊎ ItemComes x
 
   -- a fragment that is awaited, where it arises
   pub record FragmentAwaited (a : Awaited) : Type 0 where
@@ -482,7 +486,7 @@ module _ (r0 : RegionResult) (bs0 : Branches) (wf : IsWellFormed (grown r0 bs0))
       pub awaited : (a : Awaited) → In a (come_below p s begun b q.arrival.released q.items bs).awaited → In a c.awaited
 
     walk : (at : List Key) (ra : RegionResult) (ba : Branches) (begun : Time) (way : Way) (sc : IsScope r0 bs0 wf p lawful at ra ba begun way) (q : Placed) (bs : Branches) (b : Bool)
-        → At at ra ba begun way sc q b → Walks (scope_of (grown ra ba)) begun q b bs → (x : Arrival) → In x (come_below p (scope_of (grown ra ba)) begun b q.arrival.released q.items bs).arrivals → Comes x
+        → At at ra ba begun way sc q b → Walks (scope_of (grown ra ba)) begun q b bs → (x : Arrival) → In x (come_below p (scope_of (grown ra ba)) begun b q.arrival.released q.items bs).arrivals → ComesLater x
     walk at ra ba begun way sc q none b h w x i = absurd i
     walk at ra ba begun way sc q (more (Fields g) (grown r inner) bs) b h w x i =
         by (in_cases x (cond d here_course nothing_comes).arrivals (in_course.arrivals ++ by_course.arrivals) i)
@@ -527,15 +531,17 @@ module _ (r0 : RegionResult) (bs0 : Branches) (wf : IsWellFormed (grown r0 bs0))
         arrives : d ≡ true → In a.arrival c.arrivals
         arrives e = w.arrives a.arrival (in_left a.arrival (cond d here_course nothing_comes).arrivals (in_course.arrivals ++ by_course.arrivals) (to_if d here_course a.arrival e (inl refl)))
 
-        comes : d ≡ true → Comes a.arrival
+        comes : d ≡ true → ComesLater a.arrival
         comes e = record {
-          place = a;
-          is_place = ia;
-          is = refl;
-          part = refl;
-          kind = kind_a;
-          ready = λ nr. is_ready f wf q.site a.site g (site_in q h.is_place) (site_in a ia) is_g refl refl refl (run_good at ra ba begun way sc x0 run e);
-          came = inr (inl (group_comes at ra ba begun way sc q h.is_place h.of_scope b h.base x0 run is_g e a.site refl is));
+          comes = record {
+            place = a;
+            is_place = ia;
+            is = refl;
+            part = refl;
+            kind = kind_a;
+            ready = λ nr. is_ready f wf q.site a.site g (site_in q h.is_place) (site_in a ia) is_g refl refl refl (run_good at ra ba begun way sc x0 run e);
+          };
+          came = inl (group_comes at ra ba begun way sc q h.is_place h.of_scope b h.base x0 run is_g e a.site refl is);
         }
 
         around_of : (y : Frag) → In y r.fragments ⊎ In y q.site.around → In y s.fragments
@@ -579,9 +585,9 @@ module _ (r0 : RegionResult) (bs0 : Branches) (wf : IsWellFormed (grown r0 bs0))
         only (inl e) = e
         only (inr j) = absurd j
 
-        by : In x (cond d here_course nothing_comes).arrivals ⊎ In x (in_course.arrivals ++ by_course.arrivals) → (In x in_course.arrivals → Comes x) → (In x by_course.arrivals → Comes x) → Comes x
-        by (inl j) k l = let m = if_arrives d here_course x j in subst Comes (sym (only m.1)) (comes m.0)
-        by (inr j) k l = elim (in_cases x in_course.arrivals by_course.arrivals j) as (λ z. Comes x) [ inl m ↦ k m | inr m ↦ l m ]
+        by : In x (cond d here_course nothing_comes).arrivals ⊎ In x (in_course.arrivals ++ by_course.arrivals) → (In x in_course.arrivals → ComesLater x) → (In x by_course.arrivals → ComesLater x) → ComesLater x
+        by (inl j) k l = let m = if_arrives d here_course x j in subst ComesLater (sym (only m.1)) (comes m.0)
+        by (inr j) k l = elim (in_cases x in_course.arrivals by_course.arrivals j) as (λ z. ComesLater x) [ inl m ↦ k m | inr m ↦ l m ]
     walk at ra ba begun way sc q (more (Item st n) (grown r inner) bs) b h w x i =
         by (in_cases x (cond d here_course nothing_comes).arrivals by_course.arrivals i)
         (λ e. walk at_n r inner time (by_stream st) (sc_a e) a inner true (h_a e) (w_a e) x) (walk at ra ba begun way sc q bs b h w_rest x)
@@ -636,15 +642,10 @@ module _ (r0 : RegionResult) (bs0 : Branches) (wf : IsWellFormed (grown r0 bs0))
             item_in_time c lawful (awaited_stream p q.items q.arrival.released st) (is_awaited e) refl (opens e).0 (opens e).1 a.arrival
             (to_filter (is_item_at st.path.keys) a.arrival c.arrivals (arrives e) (same_keys-refl st.path.keys))
 
-        comes : d ≡ true → Comes a.arrival
+        comes : d ≡ true → ComesLater a.arrival
         comes e = record {
-          place = a;
-          is_place = ia;
-          is = refl;
-          part = refl;
-          kind = kind_a;
-          ready = λ nr. absurd (not_root nr);
-          came = inr (inr (record { stream = st; way = refl; parent = q; is_parent = h.is_place; is_listed = is_st; is_awaited = is_awaited e; opening = (opens e).0; announced = (opens e).1; times = in_time e }));
+          comes = record { place = a; is_place = ia; is = refl; part = refl; kind = kind_a; ready = λ nr. absurd (not_root nr) };
+          came = inr (record { stream = st; way = refl; parent = q; is_parent = h.is_place; is_listed = is_st; is_awaited = is_awaited e; opening = (opens e).0; announced = (opens e).1; times = in_time e });
         } where
           not_root : true ≡ false → ⊥
           not_root z = cc
@@ -696,11 +697,11 @@ module _ (r0 : RegionResult) (bs0 : Branches) (wf : IsWellFormed (grown r0 bs0))
           awaited = λ z j. w.awaited z (in_right z (cond d here_course nothing_comes).awaited by_course.awaited j);
         }
 
-        inside : In x (a.arrival ∷ (in_course.arrivals ++ [])) → (e : d ≡ true) → (In x in_course.arrivals → Comes x) → Comes x
-        inside (inl g) e k = subst Comes (sym g) (comes e)
+        inside : In x (a.arrival ∷ (in_course.arrivals ++ [])) → (e : d ≡ true) → (In x in_course.arrivals → ComesLater x) → ComesLater x
+        inside (inl g) e k = subst ComesLater (sym g) (comes e)
         inside (inr j) e k = k (subst (λ (l : List Arrival). In x l) (append-nil in_course.arrivals) j)
 
-        by : In x (cond d here_course nothing_comes).arrivals ⊎ In x by_course.arrivals → ((e : d ≡ true) → In x in_course.arrivals → Comes x) → (In x by_course.arrivals → Comes x) → Comes x
+        by : In x (cond d here_course nothing_comes).arrivals ⊎ In x by_course.arrivals → ((e : d ≡ true) → In x in_course.arrivals → ComesLater x) → (In x by_course.arrivals → ComesLater x) → ComesLater x
         by (inl j) k l = let m = if_arrives d here_course x j in inside m.1 m.0 (k m.0)
         by (inr j) k l = l j
 
@@ -721,9 +722,9 @@ module _ (r0 : RegionResult) (bs0 : Branches) (wf : IsWellFormed (grown r0 bs0))
     }
 
     is_first : IsFirst top
-    is_first = record { way = refl; at = refl; root = refl; when = refl }
+    is_first = record { way = refl; at = refl; root = refl; when = refl; no_list = no_first_list f wf }
 
-    pub later_comes : (x : Arrival) → In x below_top.arrivals → Comes x
+    pub later_comes : (x : Arrival) → In x below_top.arrivals → ComesLater x
     later_comes = walk [] r0 bs0 (Some 0) at_first sc0 top bs0 true
         (record {
           is_place = inl refl;
@@ -741,7 +742,7 @@ module _ (r0 : RegionResult) (bs0 : Branches) (wf : IsWellFormed (grown r0 bs0))
         })
 
     pub all_comes : (x : Arrival) → In x c.arrivals → Comes x
-    all_comes x (inl e) = subst Comes (sym e) (record { place = top; is_place = inl refl; is = refl; part = refl; kind = inl is_first; ready = λ nr. absurd (not_root nr); came = inl is_first }) where
+    all_comes x (inl e) = subst Comes (sym e) (record { place = top; is_place = inl refl; is = refl; part = refl; kind = inl is_first; ready = λ nr. absurd (not_root nr) }) where
       not_root : true ≡ false → ⊥
       not_root z = cc
-    all_comes x (inr i) = later_comes x (subst (λ (l : List Arrival). In x l) (append-nil below_top.arrivals) i)
+    all_comes x (inr i) = (later_comes x (subst (λ (l : List Arrival). In x l) (append-nil below_top.arrivals) i)).comes

@@ -40,3 +40,4 @@ pub mod OwnersAll
 pub mod BroughtAll
 pub mod Items
 pub mod Awaits
+pub mod OneStream

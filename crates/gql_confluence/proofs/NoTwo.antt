@@ -1,12 +1,12 @@
 -- Lists in which no two elements meet a test.
-use Rattle.std.proofs.Common.{◌≡◌, ◌⊎◌, inl, inr, List, [], ◌∷◌, ◌++◌, map, refl, sym, subst, ◌∙◌, ap, Bool, true, false}
-use Rattle.std.specs.Prelude.{not, ◌&&◌, flat_map}
+use Rattle.std.proofs.Common.{◌≡◌, ◌⊎◌, inl, inr, List, [], ◌∷◌, ◌++◌, map, refl, sym, subst, ◌∙◌, ap, Bool, true, false, cond}
+use Rattle.std.specs.Prelude.{filter, not, ◌&&◌, flat_map}
 use Rattle.std.specs.List.{list_any}
 use Rattle.gql_tree.specs.WellFormed.{no_two}
 use Rattle.gql_confluence.proofs.Parts.{In, in_left, in_right, in_cases}
-use Rattle.gql_confluence.proofs.Lists.{and_left, to_map, to_flat, to_any}
+use Rattle.gql_confluence.proofs.Lists.{and_left, in_filter, in_map, to_map, to_flat, to_any}
 
-not_any : {X : Type 0} (p : X → Bool) (xs : List X) → not (list_any p xs) ≡ true → (x : X) → In x xs → p x ≡ false
+pub not_any : {X : Type 0} (p : X → Bool) (xs : List X) → not (list_any p xs) ≡ true → (x : X) → In x xs → p x ≡ false
 not_any p xs h x i = by (p x) refl where
   by : (b : Bool) → p x ≡ b → p x ≡ false
   by true e = let f : list_any p xs ≡ true = to_any p xs x i e in absurd (cc)
@@ -47,6 +47,39 @@ module _ {Y : Type 0} (t : Y → Y → Bool) where
       wider : (y : Y) → In y xs ⊎ In y zs → In y (xs ++ (ys ++ zs))
       wider y (inl i) = in_left y xs (ys ++ zs) i
       wider y (inr i) = in_right y xs (ys ++ zs) (in_right y ys zs i)
+
+  pub no_two_join : (xs ys : List Y) → no_two t xs ≡ true → no_two t ys ≡ true → ((x y : Y) → In x xs → In y ys → t x y ≡ false) → no_two t (xs ++ ys) ≡ true
+  no_two_join [] ys h k cross = k
+  no_two_join (x ∷ xs) ys h k cross =
+      let a = and_left (not (list_any (t x) xs)) (no_two t xs) h in
+      let here : not (list_any (t x) (xs ++ ys)) ≡ true = to_not_any (t x) (xs ++ ys) (λ y i. by y (in_cases y xs ys i) a.0) in
+      rw (here, no_two_join xs ys a.1 k (λ z y i j. cross z y (inr i) j)) refl
+    where
+      by : (y : Y) → In y xs ⊎ In y ys → not (list_any (t x) xs) ≡ true → t x y ≡ false
+      by y (inl i) n = not_any (t x) xs n y i
+      by y (inr i) n = cross x y (inl refl) i
+
+  -- the images of elements that differ by another test
+  pub no_two_mapped : {X : Type 0} (g : X → Y) (u : X → X → Bool) (xs : List X) → ((x y : X) → t (g x) (g y) ≡ u x y) → no_two u xs ≡ true → no_two t (map g xs) ≡ true
+  no_two_mapped g u [] e h = refl
+  no_two_mapped g u (x ∷ xs) e h =
+      let a = and_left (not (list_any (u x) xs)) (no_two u xs) h in
+      let here : not (list_any (t (g x)) (map g xs)) ≡ true = to_not_any (t (g x)) (map g xs) (λ y i. let m = in_map g y xs i in ap (t (g x)) m.2 ∙ (e x m.0 ∙ not_any (u x) xs a.0 m.0 m.1)) in
+      rw (here, no_two_mapped g u xs e a.1) refl
+
+  pub no_two_none : (xs : List Y) → ((x y : Y) → In x xs → t x y ≡ false) → no_two t xs ≡ true
+  no_two_none [] h = refl
+  no_two_none (x ∷ xs) h = rw (to_not_any (t x) xs (λ y i. h x y (inl refl)), no_two_none xs (λ z y i. h z y (inr i))) refl
+
+  pub no_two_filter : (p : Y → Bool) (xs : List Y) → no_two t xs ≡ true → no_two t (filter p xs) ≡ true
+  no_two_filter p [] h = refl
+  no_two_filter p (x ∷ xs) h =
+      let a = and_left (not (list_any (t x) xs)) (no_two t xs) h in
+      by (p x) (no_two_filter p xs a.1) (to_not_any (t x) (filter p xs) (λ y i. not_any (t x) xs a.0 y (in_filter p y xs i).0))
+    where
+      by : (b : Bool) → no_two t (filter p xs) ≡ true → not (list_any (t x) (filter p xs)) ≡ true → no_two t (cond b (x ∷ filter p xs) (filter p xs)) ≡ true
+      by true k n = rw (n, k) refl
+      by false k n = k
 
   clash : (a b : Y) → t a b ≡ true → t a b ≡ false → ⊥
   clash a b e f = cc

@@ -18,8 +18,9 @@ use Rattle.gql_tree.specs.declared.delivery.TaskWork.TheVariants.{Fields, Item}
 use Rattle.gql_tree.specs.Keys.{same_lists, same_key}
 use Rattle.gql_tree.specs.Flat.{Mark, null, truth, integer, text, object, list, mark_of, flat, members_of}
 use Rattle.gql_tree.specs.Forest.{Forest, Branches, grown, none, more, numbers, items_to_come, tasks_of}
+use Rattle.gql_tree.specs.FirstPayloads.{outcome_value}
 use Rattle.gql_tree.specs.Fate.{is_good, Scope, scope_of}
-use Rattle.gql_tree.specs.WellFormed.{Site, works_of, root_site, keys_of, sites_below, sites, mark_at, shows_object, no_two, share_a_key, collide, coincide, shows_list, begins_a_list, has_the_keys, has_its_fields, IsWellFormed}
+use Rattle.gql_tree.specs.WellFormed.{first_region, Site, works_of, root_site, keys_of, sites_below, sites, mark_at, shows_object, no_two, share_a_key, collide, coincide, shows_list, begins_a_list, has_the_keys, has_its_fields, IsWellFormed}
 use Rattle.gql_confluence.proofs.Parts.{In, in_left, in_right, in_cases}
 use Rattle.gql_confluence.proofs.Lists.{and_left, in_map, in_flat, all_at, to_any}
 use Rattle.gql_confluence.proofs.Deciders.{same_keys-refl, prefix_drop}
@@ -110,26 +111,59 @@ module _ (f : Forest) (wf : IsWellFormed f) where
         let g : flat Null [] ≡ Some null = ap (λ l. Some (mark_of l)) outs-Null in
         cc
 
-  item_of : (y a : Site) (st : Stream) (n : ℕ) → In y regions → In st y.region.streams → st.first ≤ n → a.at ≡ st.path.keys ++ Index n ∷ [] → a.is_root ≡ true → IsItemOf a y
-  item_of y a st n is_y is_st le at root =
+  -- the good value of the initial region is no list
+  pub no_first_list : (n : ℕ) → flat (outcome_value (first_region f).outcome) [] ≡ Some (list n) → ⊥
+  no_first_list n h = by (good_or (first_region f).outcome) where
+    object_list : (o : Option Mark) → o ≡ Some object → o ≡ Some (list n) → ⊥
+    object_list o e g = cc
+
+    pick : (b c : Bool) → b ≡ true → (not b || c) ≡ true → c ≡ true
+    pick true c e k = k
+    pick false c e k = absurd (cc)
+
+    by : (is_good (first_region f) ≡ true) ⊎ (outcome_value (first_region f).outcome ≡ Null) → ⊥
+    by (inl good) = object_list (flat (outcome_value (first_region f).outcome) []) (object_mark (flat (outcome_value (first_region f).outcome) []) (pick (is_good (first_region f)) _ good wf.first_object)) h
+    by (inr null') =
+        let e : flat Null [] ≡ Some (list n) = ap (λ (v : Value). flat v []) (sym null') ∙ h in
+        let g : flat Null [] ≡ Some null = ap (λ l. Some (mark_of l)) outs-Null in
+        cc
+
+  -- where the list of a stream stands in its region
+  pub record ListIn (y : Site) (st : Stream) : Type 0 where
+    pub rest : List Key
+    pub at : st.path.keys ≡ y.at ++ rest
+    pub has : flat (value_in y) rest ≡ Some (list st.first)
+    pub proper : Proper y rest
+
+  pub list_in : (y : Site) (st : Stream) → In y regions → In st y.region.streams → ListIn y st
+  list_in y st is_y is_st =
       let t = and_left (shows_list st.first (mark_at y st.path.keys)) _ (all_at (begins_a_list y) y.region.streams (all_at (λ x. list_all (begins_a_list x) x.region.streams) regions wf.streams_stand y is_y) st is_st) in
       let m = marked y st.path.keys (list st.first) (list_mark st.first (mark_at y st.path.keys) t.0) in
-      let path = prefix_drop y.at st.path.keys m.0 in
       record {
-        root = root;
         rest = drop (length y.at) st.path.keys;
-        index = n;
-        first = st.first;
-        at = at ∙ ap (λ (l : List Key). l ++ Index n ∷ []) path;
+        at = prefix_drop y.at st.path.keys m.0;
         has = m.1;
         proper = proper_by y.is_root (drop (length y.at) st.path.keys) refl refl m.1;
-        behind = le;
       }
     where
       proper_by : (b : Bool) (l : List Key) → y.is_root ≡ b → drop (length y.at) st.path.keys ≡ l → flat (value_in y) (drop (length y.at) st.path.keys) ≡ Some (list st.first) → Proper y (drop (length y.at) st.path.keys)
       proper_by true l e f h = inl e
       proper_by false (k ∷ l) e f h = inr (k, l, f)
       proper_by false [] e f h = absurd (no_list y is_y e st.first (ap (flat (value_in y)) (sym f) ∙ h))
+
+  item_of : (y a : Site) (st : Stream) (n : ℕ) → In y regions → In st y.region.streams → st.first ≤ n → a.at ≡ st.path.keys ++ Index n ∷ [] → a.is_root ≡ true → IsItemOf a y
+  item_of y a st n is_y is_st le at root =
+      let l = list_in y st is_y is_st in
+      record {
+        root = root;
+        rest = l.rest;
+        index = n;
+        first = st.first;
+        at = at ∙ ap (λ (k : List Key). k ++ Index n ∷ []) l.at;
+        has = l.has;
+        proper = l.proper;
+        behind = le;
+      }
 
   abbrev Fine : List Site → Type 0
   Fine xs = Unique xs × ClosedAll xs
