@@ -151,6 +151,7 @@ module _ (r0 : RegionResult) (bs0 : Branches) (wf : IsWellFormed (grown r0 bs0))
     pub parent : Placed
     pub is_parent : In parent here
     pub is_listed : In stream parent.site.region.streams
+    pub arrives : In parent.arrival c.arrivals
     pub is_awaited : In (awaited_stream p parent.items parent.arrival.released stream) c.awaited
     pub opening : ℕ
     pub announced : parent.arrival.released ≡ Some opening
@@ -645,7 +646,7 @@ module _ (r0 : RegionResult) (bs0 : Branches) (wf : IsWellFormed (grown r0 bs0))
         comes : d ≡ true → ComesLater a.arrival
         comes e = record {
           comes = record { place = a; is_place = ia; is = refl; part = refl; kind = kind_a; ready = λ nr. absurd (not_root nr) };
-          came = inr (record { stream = st; way = refl; parent = q; is_parent = h.is_place; is_listed = is_st; is_awaited = is_awaited e; opening = (opens e).0; announced = (opens e).1; times = in_time e });
+          came = inr (record { stream = st; way = refl; parent = q; is_parent = h.is_place; is_listed = is_st; arrives = h.base.arrives (and_left b (is_item_delivered q.items st n) e).0; is_awaited = is_awaited e; opening = (opens e).0; announced = (opens e).1; times = in_time e });
         } where
           not_root : true ≡ false → ⊥
           not_root z = cc

@@ -41,3 +41,6 @@ pub mod BroughtAll
 pub mod Items
 pub mod Awaits
 pub mod OneStream
+pub mod SoundAll
+pub mod BridgeAll
+pub mod ConfluentAll
