@@ -13,21 +13,19 @@ use Rattle.gql_tree.specs.Keys.{same_lists, same_key}
 use Rattle.gql_tree.specs.Forest.{Forest, Branches, grown, none, more, tasks_of}
 use Rattle.gql_tree.specs.Fate.{ItemRun, Scope, scope_of, fragments_below, is_delivered, is_announced, items_run, items_of_stream, is_item_delivered}
 use Rattle.gql_tree.specs.Times.{Time}
-use Rattle.gql_tree.specs.Course.{Schedule, Awaited, at_first, by_owners, by_stream, Arrival, Course, nothing_comes, one_comes, scope_comes, released_at, carriers, awaited_fragment, awaited_fragments, awaited_stream, item_at, come_below, course}
+use Rattle.gql_tree.specs.Course.{Schedule, Awaited, at_first, by_owners, by_stream, Arrival, Course, nothing_comes, one_comes, scope_comes, released_at, carriers, awaited_fragment, awaited_fragments, awaited_stream, items_awaited, item_at, come_below, course}
 use Rattle.gql_tree.specs.WellFormed.{Site, root_site, keys_of, works_of, sites_below, sites, no_two, IsWellFormed}
-use Rattle.gql_tree.specs.Lawful.{IsLawful}
 use Rattle.gql_confluence.proofs.Parts.{In, in_left, in_right, in_cases}
 use Rattle.gql_confluence.proofs.Lists.{in_filter, in_map, to_flat}
 use Rattle.gql_confluence.proofs.Deciders.{same_keys-refl, keys_same}
 use Rattle.gql_confluence.proofs.NoTwo.{no_two_left, no_two_right, no_two_cross, no_two_drop}
 use Rattle.gql_confluence.proofs.SoundnessAll.{is_item_at, items_at, FollowFrom}
 use Rattle.gql_confluence.proofs.Sites.{all_rec_at}
-use Rattle.gql_confluence.proofs.SitesAll.{listed_item}
-use Rattle.gql_confluence.proofs.Places.{Placed, root_place, group_place, places_below, all, is_site, fragments_placed, streams_no_two}
-use Rattle.gql_confluence.proofs.BroughtAll.{FragmentAwaited, StreamAwaited}
-use Rattle.gql_confluence.proofs.Items.{filter_append, flat_append, streams_of, Grows, Elsewhere, at_path, skip, two_none, none_at, direct, direct_are, alike, follow_from, count}
+use Rattle.gql_confluence.proofs.SitesAll.{listed_item, is_longer}
+use Rattle.gql_confluence.proofs.Places.{FragmentAwaited, StreamAwaited, Placed, root_place, group_place, places_below, all, is_site, fragments_placed, streams_no_two}
+use Rattle.gql_confluence.proofs.Items.{filter_append, flat_append, streams_of, Grows, Elsewhere, at_path, skip, two_none, none_at, direct, direct_are, alike, follow_from, count, ItemFacts, facts_of, awaits_one}
 
-module _ (r0 : RegionResult) (bs0 : Branches) (wf : IsWellFormed (grown r0 bs0)) (p : Schedule) (lawful : IsLawful (grown r0 bs0) p) where
+module _ (r0 : RegionResult) (bs0 : Branches) (wf : IsWellFormed (grown r0 bs0)) (p : Schedule) where
   abbrev f : Forest
   f = grown r0 bs0
 
@@ -40,14 +38,16 @@ module _ (r0 : RegionResult) (bs0 : Branches) (wf : IsWellFormed (grown r0 bs0))
   -- the items of a stream of this region, as they come
   pub record HasItems (q : Placed) (st : Stream) : Type 0 where
     pub follow : FollowFrom st.path.keys st.first (items_at c st.path.keys)
+    pub facts : (x : Arrival) → In x (items_at c st.path.keys) → ItemFacts p st q.arrival.released q.items x
+    pub waits : (y : ItemRun) × In y (items_awaited q.items st)
     pub number : length (items_at c st.path.keys) ≡ length (filter (λ (x : ItemRun). is_item_delivered q.items x.stream x.index) (items_of_stream q.items st))
 
   pub record StreamGrows (a : Awaited) : Type 0 where
-    pub awaited : StreamAwaited r0 bs0 wf p lawful a
+    pub awaited : StreamAwaited r0 bs0 wf p a
     pub items : HasItems awaited.place awaited.stream
 
   abbrev Awaits : Awaited → Type 0
-  Awaits a = FragmentAwaited r0 bs0 wf p lawful a ⊎ StreamGrows a
+  Awaits a = FragmentAwaited r0 bs0 wf p a ⊎ StreamGrows a
 
   -- what is known of some branches of a region whose streams these are
   pub record Sees (s : Scope) (around : List Frag) (begun : Time) (b : Bool) (rel : Time) (items : List ItemRun) (bs : Branches) (own : List Stream) : Type 0 where
@@ -89,9 +89,9 @@ module _ (r0 : RegionResult) (bs0 : Branches) (wf : IsWellFormed (grown r0 bs0))
     zs = sites_below s around inner
 
     region_items : (y : Site) → In y (sites f) → y.region ≡ r → y.works ≡ works_of inner → ((z : Site) → In z zs → In z (sites f)) → no_two alike (r.streams ++ streams_of zs) ≡ true
-        → (q : Placed) → q.items ≡ items_run inner → b ≡ true → (st : Stream) → In st r.streams
+        → (q : Placed) → q.items ≡ items_run inner → q.arrival.released ≡ rel → b ≡ true → (st : Stream) → In st r.streams
         → items_at c st.path.keys ≡ filter (is_item_at st.path.keys) (come_below p s begun b rel (items_run inner) inner).arrivals → HasItems q st
-    region_items y i same works sub differ q items e st j seen =
+    region_items y i same works sub differ q items when e st j seen =
         let tasks : works_of inner ≡ tasks_of r = sym works ∙ (all_rec_at (λ (z : Site). z.works ≡ tasks_of z.region) (sites f) wf.grows y i ∙ ap tasks_of same) in
         let grows : Grows inner r.streams zs = record {
           items = λ su n k. (listed_item f wf r su n (subst (λ (l : List TaskWork). In (Item su n) l) tasks k)).0;
@@ -102,6 +102,10 @@ module _ (r0 : RegionResult) (bs0 : Branches) (wf : IsWellFormed (grown r0 bs0))
         ∙ ap (λ d. direct p st.path.keys d rel (items_run inner) inner) e) in
         record {
           follow = subst (λ (l : List Arrival). FollowFrom st.path.keys st.first l) (sym is) (follow_from st.path.keys st refl p rel (items_run inner) r inner (no_two_left alike r.streams (streams_of zs) differ) j tasks);
+          facts = λ x k. subst (λ (t : Time). ItemFacts p st t q.items x) (sym when) (subst (λ (l : List ItemRun). ItemFacts p st rel l x) (sym items)
+              (facts_of st p rel (items_run inner) r inner (no_two_left alike r.streams (streams_of zs) differ) j tasks refl x (subst (λ (l : List Arrival). In x l) is k)));
+          waits = subst (λ (l : List ItemRun). (z : ItemRun) × In z (items_awaited l st)) (sym items)
+              (awaits_one st r inner (no_two_left alike r.streams (streams_of zs) differ) j tasks (is_longer f wf y st i (subst (λ (w : RegionResult). In st w.streams) (sym same) j)));
           number = ap length is ∙ (count p st rel (items_run inner) inner ∙ ap (λ (l : List ItemRun). length (filter (λ (x : ItemRun). is_item_delivered l x.stream x.index) (items_of_stream l st))) (sym items));
         }
 
@@ -215,7 +219,7 @@ module _ (r0 : RegionResult) (bs0 : Branches) (wf : IsWellFormed (grown r0 bs0))
           let m = in_map (awaited_stream p (items_run inner) time) a r.streams j in
           inr (record {
             awaited = record { place = q; is_place = iq; stream = m.0; is_listed = m.1; is = m.2; arrives = h.arrives q.arrival (in_left q.arrival (cond d here_course nothing_comes).arrivals (in_course.arrivals ++ by_course.arrivals) (to_if d here_course q.arrival e (inl refl))) };
-            items = region_items r s (r.fragments ++ around) begun d time inner q.site (h.is_site q.site (inl refl)) refl refl (λ z k. h.is_site z (inr (in_left z za zb k))) differ_a q refl e m.0 m.1 (seen_a m.0 (in_left m.0 r.streams (streams_of za) m.1));
+            items = region_items r s (r.fragments ++ around) begun d time inner q.site (h.is_site q.site (inl refl)) refl refl (λ z k. h.is_site z (inr (in_left z za zb k))) differ_a q refl refl e m.0 m.1 (seen_a m.0 (in_left m.0 r.streams (streams_of za) m.1));
           })
 
       by : In a (cond d here_course nothing_comes).awaited ⊎ In a (in_course.awaited ++ by_course.awaited) → (In a in_course.awaited → Awaits a) → (In a by_course.awaited → Awaits a) → Awaits a
@@ -345,24 +349,25 @@ module _ (r0 : RegionResult) (bs0 : Branches) (wf : IsWellFormed (grown r0 bs0))
           let m = in_map (awaited_stream p (items_run inner) time) a r.streams j in
           inr (record {
             awaited = record { place = q; is_place = iq; stream = m.0; is_listed = m.1; is = m.2; arrives = h.arrives q.arrival (in_left q.arrival (cond d here_course nothing_comes).arrivals by_course.arrivals (to_if d here_course q.arrival e (inl refl))) };
-            items = region_items r s_a r.fragments time true time inner q.site (h.is_site q.site (inl refl)) refl refl (λ z k. h.is_site z (inr (in_left z za zb k))) differ_a q refl refl m.0 m.1 (seen_a e m.0 (in_left m.0 r.streams (streams_of za) m.1));
+            items = region_items r s_a r.fragments time true time inner q.site (h.is_site q.site (inl refl)) refl refl (λ z k. h.is_site z (inr (in_left z za zb k))) differ_a q refl refl refl m.0 m.1 (seen_a e m.0 (in_left m.0 r.streams (streams_of za) m.1));
           })
 
       fragment : In a (awaited_fragments p s_a time) → Awaits a
       fragment j =
           let m = in_map (awaited_fragment p s_a time) a _ j in
           let k = in_filter (λ (x : Frag). is_announced s_a x.id) m.0 s_a.fragments m.1 in
-          inl (arises m.0 m.2 (in_cases m.0 r.fragments (fragments_below inner) k.0))
+          inl (arises m.0 m.2 k.1 (in_cases m.0 r.fragments (fragments_below inner) k.0))
         where
-          arises : (x : Frag) → a ≡ awaited_fragment p s_a time x → In x r.fragments ⊎ In x (fragments_below inner) → FragmentAwaited r0 bs0 wf p lawful a
-          arises x e (inl k) = record { place = q; is_place = iq; fragment = x; arises = k; is = e }
-          arises x e (inr k) =
+          arises : (x : Frag) → a ≡ awaited_fragment p s_a time x → is_announced s_a x.id ≡ true → In x r.fragments ⊎ In x (fragments_below inner) → FragmentAwaited r0 bs0 wf p a
+          arises x e an (inl k) = record { place = q; is_place = iq; fragment = x; arises = k; announced = an; is = e }
+          arises x e an (inr k) =
               let w = fragments_placed p s_a r.fragments time time (items_run inner) inner x k in
               record {
                 place = w.place;
                 is_place = h.placed w.place (inr (in_left w.place qs (places_below p s around begun rel items bs) w.is_place));
                 fragment = x;
                 arises = w.arises;
+                announced = subst (λ (z : Scope). is_announced z x.id ≡ true) (sym w.of_scope.scope) an;
                 is = e ∙ (λ z. awaited_fragment p (sym w.of_scope.scope z) (sym w.when z) x);
               }
 
@@ -405,26 +410,26 @@ module _ (r0 : RegionResult) (bs0 : Branches) (wf : IsWellFormed (grown r0 bs0))
   }
 
   -- all that is announced
-  pub all_awaits : (a : Awaited) → In a c.awaited → FragmentAwaited r0 bs0 wf p lawful a ⊎ StreamGrows a
+  pub all_awaits : (a : Awaited) → In a c.awaited → FragmentAwaited r0 bs0 wf p a ⊎ StreamGrows a
   all_awaits a i = by (in_cases a (map (awaited_stream p (items_run bs0) (Some 0)) r0.streams) (below_top.awaited ++ awaited_fragments p (scope_of f) (Some 0)) i) where
-    arises : (x : Frag) → a ≡ awaited_fragment p (scope_of f) (Some 0) x → In x r0.fragments ⊎ In x (fragments_below bs0) → FragmentAwaited r0 bs0 wf p lawful a
-    arises x e (inl k) = record { place = top; is_place = inl refl; fragment = x; arises = k; is = e }
-    arises x e (inr k) =
+    arises : (x : Frag) → a ≡ awaited_fragment p (scope_of f) (Some 0) x → is_announced (scope_of f) x.id ≡ true → In x r0.fragments ⊎ In x (fragments_below bs0) → FragmentAwaited r0 bs0 wf p a
+    arises x e an (inl k) = record { place = top; is_place = inl refl; fragment = x; arises = k; announced = an; is = e }
+    arises x e an (inr k) =
         let w = fragments_placed p (scope_of f) r0.fragments (Some 0) (Some 0) (items_run bs0) bs0 x k in
-        record { place = w.place; is_place = inr w.is_place; fragment = x; arises = w.arises; is = e ∙ (λ z. awaited_fragment p (sym w.of_scope.scope z) (sym w.when z) x) }
+        record { place = w.place; is_place = inr w.is_place; fragment = x; arises = w.arises; announced = subst (λ (z : Scope). is_announced z x.id ≡ true) (sym w.of_scope.scope) an; is = e ∙ (λ z. awaited_fragment p (sym w.of_scope.scope z) (sym w.when z) x) }
 
     deeper : In a below_top.awaited ⊎ In a (awaited_fragments p (scope_of f) (Some 0)) → Awaits a
     deeper (inl j) = awaits_walk (scope_of f) r0.fragments (Some 0) true (Some 0) (items_run bs0) bs0 r0.streams sees_0 a j
     deeper (inr j) =
         let m = in_map (awaited_fragment p (scope_of f) (Some 0)) a _ j in
         let k = in_filter (λ (x : Frag). is_announced (scope_of f) x.id) m.0 (scope_of f).fragments m.1 in
-        inl (arises m.0 m.2 (in_cases m.0 r0.fragments (fragments_below bs0) k.0))
+        inl (arises m.0 m.2 k.1 (in_cases m.0 r0.fragments (fragments_below bs0) k.0))
 
     by : In a (map (awaited_stream p (items_run bs0) (Some 0)) r0.streams) ⊎ In a (below_top.awaited ++ awaited_fragments p (scope_of f) (Some 0)) → Awaits a
     by (inl j) =
         let m = in_map (awaited_stream p (items_run bs0) (Some 0)) a r0.streams j in
         inr (record {
           awaited = record { place = top; is_place = inl refl; stream = m.0; is_listed = m.1; is = m.2; arrives = inl refl };
-          items = region_items r0 (scope_of f) r0.fragments (Some 0) true (Some 0) bs0 top.site (inl refl) refl refl (λ z k. inr k) differ_0 top refl refl m.0 m.1 (first_no_item m.0);
+          items = region_items r0 (scope_of f) r0.fragments (Some 0) true (Some 0) bs0 top.site (inl refl) refl refl (λ z k. inr k) differ_0 top refl refl refl m.0 m.1 (first_no_item m.0);
         })
     by (inr j) = deeper (in_cases a below_top.awaited (awaited_fragments p (scope_of f) (Some 0)) j)

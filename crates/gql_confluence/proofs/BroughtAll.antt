@@ -38,7 +38,7 @@ use Rattle.gql_confluence.proofs.Sites.{all_rec_at, listed, is_ready, is_below}
 use Rattle.gql_confluence.proofs.SitesAll.{listed_item, no_first_list}
 use Rattle.gql_confluence.proofs.Earliest.{IsEarliest, earliest_in}
 use Rattle.gql_confluence.proofs.ItemTimes.{IsInTime, item_in_time}
-use Rattle.gql_confluence.proofs.Places.{Placed, root_place, group_place, places_below, all, is_site, one_fragment}
+use Rattle.gql_confluence.proofs.Places.{FragmentAwaited, StreamAwaited, Placed, root_place, group_place, places_below, all, is_site, one_fragment}
 use Rattle.gql_confluence.proofs.OwnersAll.{IsScope, IsOf, root_is, IsFragment, HasPlace, fragment_place, around_is, ok_above, ok_announced, to_awaited, HasTimes, has_times, earlier, after_start, timed}
 
 -- a proper prefix comes first
@@ -169,26 +169,9 @@ module _ (r0 : RegionResult) (bs0 : Branches) (wf : IsWellFormed (grown r0 bs0))
     pub comes : Comes x
     pub came : GroupComes x ⊎ ItemComes x
 
-  -- a fragment that is awaited, where it arises
-  pub record FragmentAwaited (a : Awaited) : Type 0 where
-    pub place : Placed
-    pub is_place : In place here
-    pub fragment : Frag
-    pub arises : In fragment place.site.region.fragments
-    pub is : a ≡ awaited_fragment p place.site.scope place.begun fragment
-
-  -- a stream that is awaited, where it arises
-  pub record StreamAwaited (a : Awaited) : Type 0 where
-    pub place : Placed
-    pub is_place : In place here
-    pub stream : Stream
-    pub is_listed : In stream place.site.region.streams
-    pub is : a ≡ awaited_stream p place.items place.arrival.released stream
-    pub arrives : In place.arrival c.arrivals
-
   -- ---- one scope
 
-  module _ (awaits : (a : Awaited) → In a c.awaited → FragmentAwaited a ⊎ StreamAwaited a) where
+  module _ (awaits : (a : Awaited) → In a c.awaited → FragmentAwaited r0 bs0 wf p a ⊎ StreamAwaited r0 bs0 wf p a) where
     module _ (at : List Key) (ra : RegionResult) (ba : Branches) (begun : Time) (way : Way) (sc : IsScope r0 bs0 wf p lawful at ra ba begun way) where
       abbrev s : Scope
       s = scope_of (grown ra ba)
@@ -428,7 +411,7 @@ module _ (r0 : RegionResult) (bs0 : Branches) (wf : IsWellFormed (grown r0 bs0))
             stands = stands_on q i of_q b base x run j d a at' is;
           }
         where
-          each : (d : IsReleased x) (e : Awaited) → FragmentAwaited e ⊎ StreamAwaited e → payload.is_among (carriers p s begun x.group) e ≡ true
+          each : (d : IsReleased x) (e : Awaited) → FragmentAwaited r0 bs0 wf p e ⊎ StreamAwaited r0 bs0 wf p e → payload.is_among (carriers p s begun x.group) e ≡ true
               → (e.done ≡ Some d.early.time) × (x.group.path.keys ≡ e.path.keys ++ drop (length e.path.keys) x.group.path.keys)
           each d e (inr k) one = absurd (never (subst (λ (w : Awaited). payload.is_among (carriers p s begun x.group) w ≡ true) k.is one)) where
             never : false ≡ true → ⊥

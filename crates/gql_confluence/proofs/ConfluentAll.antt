@@ -20,13 +20,12 @@ use Rattle.gql_merge.proofs.Merging.{Merges, typed_value, merged_by}
 use Rattle.gql_merge.proofs.Served.{IsServed}
 use Rattle.gql_confluence.specs.Confluence.{HasFewIds, Confluence}
 use Rattle.gql_confluence.proofs.Parts.{In, HasAt}
-use Rattle.gql_confluence.proofs.Lists.{in_map, to_map}
 use Rattle.gql_confluence.proofs.Soundness.{part_of}
 use Rattle.gql_confluence.proofs.SoundnessAll.{setting, HasAllOf}
 use Rattle.gql_confluence.proofs.InductionAll.{courses_are_served}
 use Rattle.gql_confluence.proofs.SoundAll.{sound}
 use Rattle.gql_confluence.proofs.BridgeAll.{arrived, delivered_is, settled_is}
-use Rattle.gql_confluence.proofs.Confluent.{contains_in, in_contains}
+use Rattle.gql_confluence.proofs.Lists.{in_map, to_map, contains_in, in_contains}
 
 errors_mapped : (xs : List Arrival) → flat_map (λ (p : Part). p.errors) (map part_of xs) ≡ flat_map (λ (x : Arrival). x.region.faults) xs
 errors_mapped [] = refl

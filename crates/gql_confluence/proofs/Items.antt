@@ -1,6 +1,6 @@
 -- The delivered items of one list: they stand in the forest below the region that has the list, in the order of their indices.
 use Rattle.std.proofs.Common.{◌≡◌, ◌⊎◌, inl, inr, ℕ, zero, suc, ◌<◌, ◌≤◌, ◌+◌, ◌-◌, List, [], ◌∷◌, ◌++◌, map, length, refl, sym, subst, ◌∙◌, ap, Bool, true, false, cond, Some, arith}
-use Rattle.std.specs.Prelude.{filter, flat_map, nat_lt, ◌&&◌, ◌||◌}
+use Rattle.std.specs.Prelude.{filter, flat_map, nat_le, nat_lt, ◌&&◌, ◌||◌}
 use Rattle.std.specs.List.{list_all}
 use Rattle.std.proofs.lemmas.Bool.Decides.{nat_tests}
 use Rattle.gql_tree.specs.declared.path.Key.{Key}
@@ -15,10 +15,10 @@ use Rattle.gql_tree.specs.Keys.{same_lists, same_key}
 use Rattle.gql_tree.specs.Forest.{Branches, grown, none, more, region, numbers, items_to_come, tasks_of}
 use Rattle.gql_tree.specs.Fate.{is_good, ItemRun, Scope, scope_of, is_delivered, items_run, items_of_stream, same_path, is_item_delivered}
 use Rattle.gql_tree.specs.Times.{Time}
-use Rattle.gql_tree.specs.Course.{Schedule, Arrival, Course, by_owners, by_stream, nothing_comes, one_comes, scope_comes, released_at, carriers, item_at, come_below}
+use Rattle.gql_tree.specs.Course.{Schedule, Arrival, Course, by_owners, by_stream, nothing_comes, one_comes, scope_comes, released_at, carriers, items_awaited, item_at, come_below}
 use Rattle.gql_tree.specs.WellFormed.{Site, root_site, keys_of, works_of, sites_below, no_two}
 use Rattle.gql_confluence.proofs.Parts.{In, in_left, in_right}
-use Rattle.gql_confluence.proofs.Lists.{and_left, in_map, to_map, to_flat, all_at, to_all}
+use Rattle.gql_confluence.proofs.Lists.{to_filter, and_left, in_map, to_map, to_flat, all_at, to_all}
 use Rattle.gql_confluence.proofs.Deciders.{keys_same, same_keys-refl}
 use Rattle.gql_confluence.proofs.NoTwo.{no_two_cross, no_two_right}
 use Rattle.gql_confluence.proofs.SoundnessAll.{is_item_at, FollowFrom}
@@ -175,7 +175,7 @@ abbrev pub alike : Stream → Stream → Bool
 alike x y = same_path x.path y.path
 
 module _ (path : List Key) where
-  abbrev is_work : TaskWork → Bool
+  abbrev pub is_work : TaskWork → Bool
   is_work (Fields g) = false
   is_work (Item st n) = same_lists same_key st.path.keys path
 
@@ -247,7 +247,7 @@ module _ (path : List Key) where
       by x true e k = or_true (nat_lt m x.index) (is_good x.region) (grind (arith, nat_tests))
       by x false e k = or_right (nat_lt m x.index) (is_good x.region) (ap (λ a. a || is_good x.region) (sym e) ∙ k)
 
-    head_is : (su : Stream) (m n k : ℕ) (ws : List TaskWork) → Item su m ∷ ws ≡ map (Item st) (numbers n k) → (su ≡ st) × (m ≡ n) × (j : ℕ) × (ws ≡ map (Item st) (numbers (n + 1) j))
+    pub head_is : (su : Stream) (m n k : ℕ) (ws : List TaskWork) → Item su m ∷ ws ≡ map (Item st) (numbers n k) → (su ≡ st) × (m ≡ n) × (j : ℕ) × (ws ≡ map (Item st) (numbers (n + 1) j))
     head_is su m n zero ws e = absurd (cc)
     head_is su m n (suc k) ws e = (cc, cc, k, cc)
 
@@ -303,3 +303,85 @@ module _ (p : Schedule) (st : Stream) (rel : Time) (items : List ItemRun) where
         ap suc rec ∙ ap (λ b. length (cond b (record { stream = su; index = i; region = r } ∷ filter del (items_of_stream (items_run bs) st)) (filter del (items_of_stream (items_run bs) st)))) (sym e)
     by true false e rec =
         rec ∙ ap (λ b. length (cond b (record { stream = su; index = i; region = r } ∷ filter del (items_of_stream (items_run bs) st)) (filter del (items_of_stream (items_run bs) st)))) (sym e)
+
+-- ---- what is known of each of them
+
+-- an item that comes, and the run that gave it
+pub record ItemFacts (p : Schedule) (st : Stream) (rel : Time) (items : List ItemRun) (x : Arrival) : Type 0 where
+  pub index : ℕ
+  pub at : x.at ≡ st.path.keys ++ Index index ∷ []
+  pub released : x.released ≡ item_at p items rel st index
+  pub delivered : is_item_delivered items st index ≡ true
+  pub run : ItemRun
+  pub is_run : In run (items_of_stream items st)
+  pub is_index : run.index ≡ index
+
+module _ (st : Stream) where
+  abbrev ours : List TaskWork → List TaskWork
+  ours ws = filter (is_work st.path.keys) ws
+
+  module _ (p : Schedule) (rel : Time) (items : List ItemRun) where
+    facts : (n k : ℕ) (bs : Branches) → ours (works_of bs) ≡ map (Item st) (numbers n k) → ((y : ItemRun) → In y (items_of_stream (items_run bs) st) → In y (items_of_stream items st))
+        → (x : Arrival) → In x (direct p st.path.keys true rel items bs) → ItemFacts p st rel items x
+    facts n k none h sub x i = absurd i
+    facts n k (more (Fields g) f bs) h sub x i = facts n k bs h sub x i
+    facts n k (more (Item su m) (grown r inner) bs) h sub x i = by (same_lists same_key su.path.keys st.path.keys) (is_item_delivered items su m) refl h sub i (λ n' k' e sub' j. facts n' k' bs e sub' x j) where
+      by : (q d : Bool) → is_item_delivered items su m ≡ d → cond q (Item su m ∷ ours (works_of bs)) (ours (works_of bs)) ≡ map (Item st) (numbers n k)
+          → ((y : ItemRun) → In y (cond q (record { stream = su; index = m; region = r } ∷ items_of_stream (items_run bs) st) (items_of_stream (items_run bs) st)) → In y (items_of_stream items st))
+          → In x (cond q (cond d (record { at = su.path.keys ++ Index m ∷ []; region = r; released = item_at p items rel su m; way = by_stream su } ∷ direct p st.path.keys true rel items bs) (direct p st.path.keys true rel items bs)) (direct p st.path.keys true rel items bs))
+          → ((n' k' : ℕ) → ours (works_of bs) ≡ map (Item st) (numbers n' k') → ((y : ItemRun) → In y (items_of_stream (items_run bs) st) → In y (items_of_stream items st)) → In x (direct p st.path.keys true rel items bs) → ItemFacts p st rel items x)
+          → ItemFacts p st rel items x
+      by false d e h' sub' j rec = rec n k h' sub' j
+      by true false e h' sub' j rec = let w = head_is st.path.keys st refl su m n k (ours (works_of bs)) h' in rec (n + 1) w.2 w.3 (λ y z. sub' y (inr z)) j
+      by true true e h' sub' (inr j) rec = let w = head_is st.path.keys st refl su m n k (ours (works_of bs)) h' in rec (n + 1) w.2 w.3 (λ y z. sub' y (inr z)) j
+      by true true e h' sub' (inl g) rec =
+          let w = head_is st.path.keys st refl su m n k (ours (works_of bs)) h' in
+          record {
+            index = m;
+            at = ap (λ (a : Arrival). a.at) g ∙ ap (λ (t : Stream). t.path.keys ++ Index m ∷ []) w.0;
+            released = ap (λ (a : Arrival). a.released) g ∙ ap (λ (t : Stream). item_at p items rel t m) w.0;
+            delivered = ap (λ (t : Stream). is_item_delivered items t m) (sym w.0) ∙ e;
+            run = record { stream = su; index = m; region = r };
+            is_run = sub' (record { stream = su; index = m; region = r }) (inl refl);
+            is_index = refl;
+          }
+
+    pub facts_of : (r : RegionResult) (bs : Branches) → no_two alike r.streams ≡ true → In st r.streams → works_of bs ≡ tasks_of r → items_run bs ≡ items → (x : Arrival) → In x (direct p st.path.keys true rel items bs) → ItemFacts p st rel items x
+    facts_of r bs h i e same x j = facts st.first (st.length - st.first) bs (ap ours e ∙ works_are st.path.keys st refl r h i) (λ y z. subst (λ (l : List ItemRun). In y (items_of_stream l st)) same z) x j
+
+  -- the items of a stream begin with the first, and there is one
+  runs_from : (n k : ℕ) (bs : Branches) → ours (works_of bs) ≡ map (Item st) (numbers n k) → (y : ItemRun) → In y (items_of_stream (items_run bs) st) → n ≤ y.index
+  runs_from n k none h y i = absurd i
+  runs_from n k (more (Fields g) f bs) h y i = runs_from n k bs h y i
+  runs_from n k (more (Item su m) (grown r inner) bs) h y i = by (same_lists same_key su.path.keys st.path.keys) h i (λ n' k' e j. runs_from n' k' bs e y j) where
+    by : (q : Bool) → cond q (Item su m ∷ ours (works_of bs)) (ours (works_of bs)) ≡ map (Item st) (numbers n k)
+        → In y (cond q (record { stream = su; index = m; region = r } ∷ items_of_stream (items_run bs) st) (items_of_stream (items_run bs) st))
+        → ((n' k' : ℕ) → ours (works_of bs) ≡ map (Item st) (numbers n' k') → In y (items_of_stream (items_run bs) st) → n' ≤ y.index) → n ≤ y.index
+    by false h' j rec = rec n k h' j
+    by true h' (inl g) rec = let w = head_is st.path.keys st refl su m n k (ours (works_of bs)) h' in let a : y.index ≡ m = ap (λ (z : ItemRun). z.index) g in let b = w.1 in omega arith
+    by true h' (inr j) rec = let w = head_is st.path.keys st refl su m n k (ours (works_of bs)) h' in let a = rec (n + 1) w.2 w.3 j in omega arith
+
+  first_run : (n k : ℕ) (bs : Branches) → ours (works_of bs) ≡ map (Item st) (numbers n (suc k)) → (y : ItemRun) × In y (items_of_stream (items_run bs) st) × (y.index ≡ n)
+  first_run n k none h = absurd (cc)
+  first_run n k (more (Fields g) f bs) h = first_run n k bs h
+  first_run n k (more (Item su m) (grown r inner) bs) h = by (same_lists same_key su.path.keys st.path.keys) h (first_run n k bs) where
+    by : (q : Bool) → cond q (Item su m ∷ ours (works_of bs)) (ours (works_of bs)) ≡ map (Item st) (numbers n (suc k))
+        → (ours (works_of bs) ≡ map (Item st) (numbers n (suc k)) → (y : ItemRun) × In y (items_of_stream (items_run bs) st) × (y.index ≡ n))
+        → (y : ItemRun) × In y (cond q (record { stream = su; index = m; region = r } ∷ items_of_stream (items_run bs) st) (items_of_stream (items_run bs) st)) × (y.index ≡ n)
+    by false h' rec = rec h'
+    by true h' rec = let w = head_is st.path.keys st refl su m n (suc k) (ours (works_of bs)) h' in (record { stream = su; index = m; region = r }, inl refl, w.1)
+
+  -- a stream waits for one item at least
+  pub awaits_one : (r : RegionResult) (bs : Branches) → no_two alike r.streams ≡ true → In st r.streams → works_of bs ≡ tasks_of r → st.first < st.length → (y : ItemRun) × In y (items_awaited (items_run bs) st)
+  awaits_one r bs h i e lt =
+      let works : ours (works_of bs) ≡ map (Item st) (numbers st.first (st.length - st.first)) = ap ours e ∙ works_are st.path.keys st refl r h i in
+      let some : st.length - st.first ≡ suc (st.length - st.first - 1) = omega arith in
+      let y = first_run st.first (st.length - st.first - 1) bs (works ∙ ap (λ k. map (Item st) (numbers st.first k)) some) in
+      (y.0, to_filter (λ (x : ItemRun). list_all (λ (z : ItemRun). nat_le x.index z.index || is_good z.region) (items_of_stream (items_run bs) st)) y.0 (items_of_stream (items_run bs) st) y.1
+      (to_all (λ (z : ItemRun). nat_le y.0.index z.index || is_good z.region) (items_of_stream (items_run bs) st) (λ z j. first_or y.0.index z (least y.2 z (runs_from st.first (st.length - st.first) bs works z j)))))
+    where
+      least : {n m : ℕ} → n ≡ m → (z : ItemRun) → m ≤ z.index → nat_le n z.index ≡ true
+      least e z h = grind (arith, nat_tests)
+
+      first_or : (n : ℕ) (z : ItemRun) → nat_le n z.index ≡ true → (nat_le n z.index || is_good z.region) ≡ true
+      first_or n z e = rw e refl

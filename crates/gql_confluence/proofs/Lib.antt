@@ -16,10 +16,6 @@ pub mod Chains
 pub mod Values
 pub mod Disjoint
 pub mod Sites
-pub mod Owners
-pub mod Brought
-pub mod Bridge
-pub mod Confluent
 pub mod Orderly
 pub mod Once
 pub mod Lengths

@@ -15,9 +15,9 @@ use Rattle.gql_tree.specs.declared.delivery.RegionResult.{RegionResult}
 use Rattle.gql_tree.specs.declared.delivery.TaskWork.TheVariants.{Fields, Item}
 use Rattle.gql_tree.specs.Keys.{same_lists, same_key, same_fragment}
 use Rattle.gql_tree.specs.Forest.{Forest, Branches, grown, none, more}
-use Rattle.gql_tree.specs.Fate.{GroupRun, ItemRun, Scope, scope_of, groups_below, fragments_below, items_run, same_path}
+use Rattle.gql_tree.specs.Fate.{GroupRun, ItemRun, Scope, scope_of, groups_below, fragments_below, is_announced, items_run, same_path}
 use Rattle.gql_tree.specs.Times.{Time}
-use Rattle.gql_tree.specs.Course.{Schedule, Way, at_first, by_owners, by_stream, Arrival, released_at, carriers, item_at}
+use Rattle.gql_tree.specs.Course.{Awaited, awaited_fragment, awaited_stream, course, Schedule, Way, at_first, by_owners, by_stream, Arrival, released_at, carriers, item_at}
 use Rattle.gql_tree.specs.WellFormed.{Site, works_of, root_site, keys_of, sites_below, sites, no_two, share_a_key, collide, coincide, IsWellFormed}
 use Rattle.gql_confluence.proofs.Parts.{In, in_left, in_right, in_cases}
 use Rattle.gql_confluence.proofs.Lists.{to_map}
@@ -203,3 +203,23 @@ module _ (r0 : RegionResult) (bs0 : Branches) (wf : IsWellFormed (grown r0 bs0))
       let same : q ≡ u = one_flat one_list_of (λ (z : Placed). z.site.region.streams) all streams_no_two' q u x y i j k l a b in
       let here = no_two_at one_list_of (λ (z : Placed). z.site.region.streams) all streams_no_two' u j in
       (same, one_element one_list_of u.site.region.streams here x y (subst (λ (z : Placed). In x z.site.region.streams) same k) l a b)
+
+  -- ---- what is announced
+
+  -- a fragment that is awaited, where it arises
+  pub record FragmentAwaited (a : Awaited) : Type 0 where
+    pub place : Placed
+    pub is_place : In place all
+    pub fragment : Frag
+    pub arises : In fragment place.site.region.fragments
+    pub announced : is_announced place.site.scope fragment.id ≡ true
+    pub is : a ≡ awaited_fragment p place.site.scope place.begun fragment
+
+  -- a stream that is awaited, where it arises
+  pub record StreamAwaited (a : Awaited) : Type 0 where
+    pub place : Placed
+    pub is_place : In place all
+    pub stream : Stream
+    pub is_listed : In stream place.site.region.streams
+    pub is : a ≡ awaited_stream p place.items place.arrival.released stream
+    pub arrives : In place.arrival (course p (grown r0 bs0)).arrivals

@@ -1,10 +1,10 @@
 -- The regions of a well-formed forest: each arises in one before it, and no two bring anything to one place.
-use Rattle.std.proofs.Common.{◌≡◌, ◌⊎◌, inl, inr, ℕ, zero, suc, ◌≤◌, ◌+◌, ◌-◌, List, [], ◌∷◌, ◌++◌, map, length, drop, refl, sym, subst, ◌∙◌, ap, Bool, true, false, cond, Option, Some, None, append_assoc, arith}
-use Rattle.std.specs.Prelude.{not, ◌&&◌, ◌||◌, flat_map}
+use Rattle.std.proofs.Common.{◌≡◌, ◌⊎◌, inl, inr, ℕ, zero, suc, ◌<◌, ◌≤◌, ◌+◌, ◌-◌, List, [], ◌∷◌, ◌++◌, map, length, drop, refl, sym, subst, ◌∙◌, ap, Bool, true, false, cond, Option, Some, None, append_assoc, arith}
+use Rattle.std.specs.Prelude.{nat_lt, not, ◌&&◌, ◌||◌, flat_map}
 use Rattle.std.specs.List.{list_any, list_all}
 use Rattle.std.specs.Str.{bytes_eq}
 use Rattle.std.proofs.lemmas.Slice.Eq.{bytes_eq-Decides}
-use Rattle.std.proofs.lemmas.Bool.Decides.{Decides-eqb}
+use Rattle.std.proofs.lemmas.Bool.Decides.{Decides-eqb, nat_tests}
 use Rattle.std.proofs.lemmas.List.{append-nil}
 use Rattle.gql_tree.specs.declared.path.Key.{Key}
 use Rattle.gql_tree.specs.declared.path.Key.TheVariants.{Index}
@@ -150,6 +150,15 @@ module _ (f : Forest) (wf : IsWellFormed f) where
       proper_by true l e f h = inl e
       proper_by false (k ∷ l) e f h = inr (k, l, f)
       proper_by false [] e f h = absurd (no_list y is_y e st.first (ap (flat (value_in y)) (sym f) ∙ h))
+
+  -- and more is to come
+  pub is_longer : (y : Site) (st : Stream) → In y regions → In st y.region.streams → st.first < st.length
+  is_longer y st is_y is_st =
+      let t = and_left (shows_list st.first (mark_at y st.path.keys)) _ (all_at (begins_a_list y) y.region.streams (all_at (λ x. list_all (begins_a_list x) x.region.streams) regions wf.streams_stand y is_y) st is_st) in
+      by t.1
+    where
+      by : nat_lt st.first st.length ≡ true → st.first < st.length
+      by e = grind (arith, nat_tests)
 
   item_of : (y a : Site) (st : Stream) (n : ℕ) → In y regions → In st y.region.streams → st.first ≤ n → a.at ≡ st.path.keys ++ Index n ∷ [] → a.is_root ≡ true → IsItemOf a y
   item_of y a st n is_y is_st le at root =

@@ -27,9 +27,9 @@ use Rattle.gql_confluence.proofs.Disjoint.{value_in, part_in, Proper, Owns, IsRe
 use Rattle.gql_confluence.proofs.DisjointAll.{owned_or, regions_agree_all}
 use Rattle.gql_confluence.proofs.SitesAll.{ListIn, list_in, no_first_list, all_sites_unique}
 use Rattle.gql_confluence.proofs.ItemTimes.{items_come}
-use Rattle.gql_confluence.proofs.Places.{Placed, root_place, group_place, places_below, all, is_site, one_place}
+use Rattle.gql_confluence.proofs.Places.{FragmentAwaited, StreamAwaited, Placed, root_place, group_place, places_below, all, is_site, one_place}
 use Rattle.gql_confluence.proofs.OwnersAll.{timed}
-use Rattle.gql_confluence.proofs.BroughtAll.{Kind, IsFirst, IsGroup, IsItem, goes_before, FragmentAwaited, StreamAwaited, GroupComes, ItemComes, Comes, ComesLater, later_comes, all_comes}
+use Rattle.gql_confluence.proofs.BroughtAll.{Kind, IsFirst, IsGroup, IsItem, goes_before, GroupComes, ItemComes, Comes, ComesLater, later_comes, all_comes}
 use Rattle.gql_confluence.proofs.Awaits.{StreamGrows, all_awaits}
 use Rattle.gql_confluence.proofs.OneStream.{one_stream}
 
@@ -88,8 +88,8 @@ module _ (r0 : RegionResult) (bs0 : Branches) (wf : IsWellFormed (grown r0 bs0))
   place_of q (inr i) = placing p (scope_of f) r0.fragments (Some 0) (Some 0) (items_run bs0) bs0 q i
 
   -- all that is announced, and all that comes
-  abbrev pub awaits : (a : Awaited) → In a c.awaited → FragmentAwaited r0 bs0 wf p lawful a ⊎ StreamAwaited r0 bs0 wf p lawful a
-  awaits a i = elim (all_awaits r0 bs0 wf p lawful a i) as (λ z. FragmentAwaited r0 bs0 wf p lawful a ⊎ StreamAwaited r0 bs0 wf p lawful a) [ inl k ↦ inl k | inr k ↦ inr k.awaited ]
+  abbrev pub awaits : (a : Awaited) → In a c.awaited → FragmentAwaited r0 bs0 wf p a ⊎ StreamAwaited r0 bs0 wf p a
+  awaits a i = elim (all_awaits r0 bs0 wf p a i) as (λ z. FragmentAwaited r0 bs0 wf p a ⊎ StreamAwaited r0 bs0 wf p a) [ inl k ↦ inl k | inr k ↦ inr k.awaited ]
 
   pub comes : (x : Arrival) → In x c.arrivals → Comes r0 bs0 wf p lawful x
   comes = all_comes r0 bs0 wf p lawful awaits
@@ -222,8 +222,8 @@ module _ (r0 : RegionResult) (bs0 : Branches) (wf : IsWellFormed (grown r0 bs0))
     lists = opens_lists x i t.time t.released;
   }
 
-  pub stream_at : (a : Awaited) → In a c.awaited → a.is_stream ≡ true → StreamGrows r0 bs0 wf p lawful a
-  stream_at a i e = elim (all_awaits r0 bs0 wf p lawful a i) as (λ z. StreamGrows r0 bs0 wf p lawful a) [ inl k ↦ absurd (false_true (sym (ap (λ (z : Awaited). z.is_stream) k.is) ∙ e)) | inr k ↦ k ]
+  pub stream_at : (a : Awaited) → In a c.awaited → a.is_stream ≡ true → StreamGrows r0 bs0 wf p a
+  stream_at a i e = elim (all_awaits r0 bs0 wf p a i) as (λ z. StreamGrows r0 bs0 wf p a) [ inl k ↦ absurd (false_true (sym (ap (λ (z : Awaited). z.is_stream) k.is) ∙ e)) | inr k ↦ k ]
 
   -- the list of an announced stream, as its region has it
   pub list_holds : (q : Placed) → In q here → (st : Stream) → In st q.site.region.streams → HasAt (part_of q.arrival) st.path.keys (list st.first)
@@ -234,7 +234,7 @@ module _ (r0 : RegionResult) (bs0 : Branches) (wf : IsWellFormed (grown r0 bs0))
     t : IsTimed a
     t = timed r0 bs0 wf p lawful a i
 
-    by : StreamGrows r0 bs0 wf p lawful a → IsStreamOf c a
+    by : StreamGrows r0 bs0 wf p a → IsStreamOf c a
     by g =
         let w = g.awaited in
         let path : a.path.keys ≡ w.stream.path.keys = ap (λ (z : Awaited). z.path.keys) w.is in
