@@ -1,6 +1,6 @@
 -- What is announced in the course of a well-formed forest: each fragment and each stream, where it arises; and the items of each stream.
 use Rattle.std.proofs.Common.{◌≡◌, ◌⊎◌, inl, inr, ℕ, List, [], ◌∷◌, ◌++◌, map, length, refl, sym, subst, ◌∙◌, ap, Bool, true, false, cond, Some}
-use Rattle.std.specs.Prelude.{filter, flat_map, ◌&&◌}
+use Rattle.std.specs.Prelude.{filter, ◌&&◌}
 use Rattle.std.proofs.lemmas.List.{append-nil}
 use Rattle.gql_tree.specs.declared.path.Key.{Key}
 use Rattle.gql_tree.specs.declared.path.Key.TheVariants.{Index}
@@ -14,16 +14,16 @@ use Rattle.gql_tree.specs.Forest.{Forest, Branches, grown, none, more, tasks_of}
 use Rattle.gql_tree.specs.Fate.{ItemRun, Scope, scope_of, fragments_below, is_delivered, is_announced, items_run, items_of_stream, is_item_delivered}
 use Rattle.gql_tree.specs.Times.{Time}
 use Rattle.gql_tree.specs.Course.{Schedule, Awaited, at_first, by_owners, by_stream, Arrival, Course, nothing_comes, one_comes, scope_comes, released_at, carriers, awaited_fragment, awaited_fragments, awaited_stream, items_awaited, item_at, come_below, course}
-use Rattle.gql_tree.specs.WellFormed.{Site, root_site, keys_of, works_of, sites_below, sites, no_two, IsWellFormed}
+use Rattle.gql_tree.specs.WellFormed.{Site, works_of, sites_below, sites, no_two, IsWellFormed}
 use Rattle.gql_confluence.proofs.Parts.{In, in_left, in_right, in_cases}
-use Rattle.gql_confluence.proofs.Lists.{in_filter, in_map, to_flat}
+use Rattle.gql_confluence.proofs.Lists.{in_filter, in_map}
 use Rattle.gql_confluence.proofs.Deciders.{same_keys-refl, keys_same}
 use Rattle.gql_confluence.proofs.NoTwo.{no_two_left, no_two_right, no_two_cross, no_two_drop}
-use Rattle.gql_confluence.proofs.SoundnessAll.{is_item_at, items_at, FollowFrom}
-use Rattle.gql_confluence.proofs.Sites.{all_rec_at}
-use Rattle.gql_confluence.proofs.SitesAll.{listed_item, is_longer}
-use Rattle.gql_confluence.proofs.Places.{FragmentAwaited, StreamAwaited, Placed, root_place, group_place, places_below, all, is_site, fragments_placed, streams_no_two}
-use Rattle.gql_confluence.proofs.Items.{filter_append, flat_append, streams_of, Grows, Elsewhere, at_path, skip, two_none, none_at, direct, direct_are, alike, follow_from, count, ItemFacts, facts_of, awaits_one}
+use Rattle.gql_confluence.proofs.Soundness.{is_item_at, items_at, FollowFrom}
+use Rattle.gql_confluence.proofs.Groups.{all_rec_at}
+use Rattle.gql_confluence.proofs.Sites.{listed_item, is_longer}
+use Rattle.gql_confluence.proofs.Places.{FragmentAwaited, StreamAwaited, Placed, root_place, group_place, places_below, all, fragments_placed, streams_no_two}
+use Rattle.gql_confluence.proofs.Items.{filter_append, flat_append, streams_of, Grows, Elsewhere, skip, none_at, direct, direct_are, alike, follow_from, count, ItemFacts, facts_of, awaits_one}
 
 module _ (r0 : RegionResult) (bs0 : Branches) (wf : IsWellFormed (grown r0 bs0)) (p : Schedule) where
   abbrev f : Forest

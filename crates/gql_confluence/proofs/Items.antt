@@ -1,5 +1,5 @@
 -- The delivered items of one list: they stand in the forest below the region that has the list, in the order of their indices.
-use Rattle.std.proofs.Common.{◌≡◌, ◌⊎◌, inl, inr, ℕ, zero, suc, ◌<◌, ◌≤◌, ◌+◌, ◌-◌, List, [], ◌∷◌, ◌++◌, map, length, refl, sym, subst, ◌∙◌, ap, Bool, true, false, cond, Some, arith}
+use Rattle.std.proofs.Common.{◌≡◌, inl, inr, ℕ, zero, suc, ◌<◌, ◌≤◌, ◌+◌, ◌-◌, List, [], ◌∷◌, ◌++◌, map, length, refl, sym, subst, ◌∙◌, ap, Bool, true, false, cond, arith}
 use Rattle.std.specs.Prelude.{filter, flat_map, nat_le, nat_lt, ◌&&◌, ◌||◌}
 use Rattle.std.specs.List.{list_all}
 use Rattle.std.proofs.lemmas.Bool.Decides.{nat_tests}
@@ -12,16 +12,16 @@ use Rattle.gql_tree.specs.declared.delivery.RegionResult.{RegionResult}
 use Rattle.gql_tree.specs.declared.delivery.TaskWork.{TaskWork}
 use Rattle.gql_tree.specs.declared.delivery.TaskWork.TheVariants.{Fields, Item}
 use Rattle.gql_tree.specs.Keys.{same_lists, same_key}
-use Rattle.gql_tree.specs.Forest.{Branches, grown, none, more, region, numbers, items_to_come, tasks_of}
+use Rattle.gql_tree.specs.Forest.{Branches, grown, none, more, numbers, items_to_come, tasks_of}
 use Rattle.gql_tree.specs.Fate.{is_good, ItemRun, Scope, scope_of, is_delivered, items_run, items_of_stream, same_path, is_item_delivered}
 use Rattle.gql_tree.specs.Times.{Time}
 use Rattle.gql_tree.specs.Course.{Schedule, Arrival, Course, by_owners, by_stream, nothing_comes, one_comes, scope_comes, released_at, carriers, items_awaited, item_at, come_below}
-use Rattle.gql_tree.specs.WellFormed.{Site, root_site, keys_of, works_of, sites_below, no_two}
+use Rattle.gql_tree.specs.WellFormed.{Site, works_of, sites_below, no_two}
 use Rattle.gql_confluence.proofs.Parts.{In, in_left, in_right}
-use Rattle.gql_confluence.proofs.Lists.{to_filter, and_left, in_map, to_map, to_flat, all_at, to_all}
+use Rattle.gql_confluence.proofs.Lists.{to_filter, all_at, to_all}
 use Rattle.gql_confluence.proofs.Deciders.{keys_same, same_keys-refl}
 use Rattle.gql_confluence.proofs.NoTwo.{no_two_cross, no_two_right}
-use Rattle.gql_confluence.proofs.SoundnessAll.{is_item_at, FollowFrom}
+use Rattle.gql_confluence.proofs.Soundness.{is_item_at, FollowFrom}
 
 -- ---- lists
 
@@ -376,9 +376,11 @@ module _ (st : Stream) where
   awaits_one r bs h i e lt =
       let works : ours (works_of bs) ≡ map (Item st) (numbers st.first (st.length - st.first)) = ap ours e ∙ works_are st.path.keys st refl r h i in
       let some : st.length - st.first ≡ suc (st.length - st.first - 1) = omega arith in
-      let y = first_run st.first (st.length - st.first - 1) bs (works ∙ ap (λ k. map (Item st) (numbers st.first k)) some) in
-      (y.0, to_filter (λ (x : ItemRun). list_all (λ (z : ItemRun). nat_le x.index z.index || is_good z.region) (items_of_stream (items_run bs) st)) y.0 (items_of_stream (items_run bs) st) y.1
-      (to_all (λ (z : ItemRun). nat_le y.0.index z.index || is_good z.region) (items_of_stream (items_run bs) st) (λ z j. first_or y.0.index z (least y.2 z (runs_from st.first (st.length - st.first) bs works z j)))))
+      let y = first_run st.first (st.length - st.first - 1) bs (works ∙ ap (λ k. map (Item st) (numbers st.first k)) some) in (
+        y.0,
+        to_filter (λ (x : ItemRun). list_all (λ (z : ItemRun). nat_le x.index z.index || is_good z.region) (items_of_stream (items_run bs) st)) y.0 (items_of_stream (items_run bs) st) y.1
+            (to_all (λ (z : ItemRun). nat_le y.0.index z.index || is_good z.region) (items_of_stream (items_run bs) st) (λ z j. first_or y.0.index z (least y.2 z (runs_from st.first (st.length - st.first) bs works z j)))),
+      )
     where
       least : {n m : ℕ} → n ≡ m → (z : ItemRun) → m ≤ z.index → nat_le n z.index ≡ true
       least e z h = grind (arith, nat_tests)

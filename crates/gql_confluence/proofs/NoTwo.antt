@@ -1,6 +1,6 @@
 -- Lists in which no two elements meet a test.
 use Rattle.std.proofs.Common.{◌≡◌, ◌⊎◌, inl, inr, List, [], ◌∷◌, ◌++◌, map, refl, sym, subst, ◌∙◌, ap, Bool, true, false, cond}
-use Rattle.std.specs.Prelude.{filter, not, ◌&&◌, flat_map}
+use Rattle.std.specs.Prelude.{filter, not, flat_map}
 use Rattle.std.specs.List.{list_any}
 use Rattle.gql_tree.specs.WellFormed.{no_two}
 use Rattle.gql_confluence.proofs.Parts.{In, in_left, in_right, in_cases}

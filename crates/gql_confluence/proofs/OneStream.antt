@@ -1,6 +1,6 @@
 -- The streams that are announced differ in path.
 use Rattle.std.proofs.Common.{◌≡◌, ◌⊎◌, inl, inr, ℕ, ◌+◌, List, [], ◌∷◌, ◌++◌, map, refl, sym, subst, ◌∙◌, ap, Bool, true, false, cond, Some}
-use Rattle.std.specs.Prelude.{filter, flat_map, not, ◌&&◌}
+use Rattle.std.specs.Prelude.{filter, not, ◌&&◌}
 use Rattle.std.specs.List.{list_any}
 use Rattle.gql_tree.specs.declared.path.Key.{Key}
 use Rattle.gql_tree.specs.declared.path.Key.TheVariants.{Index}
@@ -10,14 +10,14 @@ use Rattle.gql_tree.specs.declared.delivery.Stream.{Stream}
 use Rattle.gql_tree.specs.declared.delivery.RegionResult.{RegionResult}
 use Rattle.gql_tree.specs.declared.delivery.TaskWork.TheVariants.{Fields, Item}
 use Rattle.gql_tree.specs.Keys.{same_lists, same_key}
-use Rattle.gql_tree.specs.Forest.{Forest, Branches, grown, none, more}
+use Rattle.gql_tree.specs.Forest.{Branches, grown, none, more}
 use Rattle.gql_tree.specs.Fate.{ItemRun, Scope, scope_of, is_delivered, items_run, is_item_delivered, same_path}
 use Rattle.gql_tree.specs.Times.{Time, has_time}
 use Rattle.gql_tree.specs.Course.{Schedule, Awaited, by_owners, by_stream, Course, nothing_comes, one_comes, scope_comes, released_at, carriers, awaited_fragment, awaited_fragments, awaited_stream, item_at, come_below, course}
 use Rattle.gql_tree.specs.Payloads.{Known, known_from, all_known, awaited_cmp}
 use Rattle.gql_tree.specs.WellFormed.{Site, sites_below, no_two, IsWellFormed}
 use Rattle.gql_confluence.proofs.Parts.{In, in_left, in_right, in_cases}
-use Rattle.gql_confluence.proofs.Lists.{and_left, in_map, to_any}
+use Rattle.gql_confluence.proofs.Lists.{and_left, in_map}
 use Rattle.gql_confluence.proofs.Deciders.{same_keys-refl, keys_same}
 use Rattle.gql_confluence.proofs.NoTwo.{not_any, no_two_left, no_two_right, no_two_cross, no_two_join, no_two_mapped, no_two_none, no_two_filter}
 use Rattle.gql_confluence.proofs.EntriesFound.{Apart, apart_ordered}

@@ -1,12 +1,10 @@
 -- The regions of a forest where they lie, each with what arrives of it where it is delivered.
 use Rattle.std.proofs.Common.{◌≡◌, ◌⊎◌, inl, inr, ℕ, List, [], ◌∷◌, ◌++◌, map, refl, sym, subst, ◌∙◌, ap, Bool, true, false, Some}
-use Rattle.std.specs.Prelude.{not, ◌&&◌, ◌||◌, ◌==◌, flat_map}
-use Rattle.std.specs.List.{list_any, list_all}
+use Rattle.std.specs.Prelude.{◌==◌, flat_map}
 use Rattle.std.proofs.lemmas.Bool.Decides.{Decides-eqb}
 use Rattle.std.proofs.lemmas.List.{map-append}
 use Rattle.gql_tree.specs.declared.path.Key.{Key}
 use Rattle.gql_tree.specs.declared.path.Key.TheVariants.{Index}
-use Rattle.gql_tree.specs.declared.path.Path.{Path}
 use Rattle.gql_tree.specs.declared.delivery.Frag.{Frag}
 use Rattle.gql_tree.specs.declared.delivery.FragId.{FragId}
 use Rattle.gql_tree.specs.declared.delivery.Group.{Group}
@@ -15,15 +13,15 @@ use Rattle.gql_tree.specs.declared.delivery.RegionResult.{RegionResult}
 use Rattle.gql_tree.specs.declared.delivery.TaskWork.TheVariants.{Fields, Item}
 use Rattle.gql_tree.specs.Keys.{same_lists, same_key, same_fragment}
 use Rattle.gql_tree.specs.Forest.{Forest, Branches, grown, none, more}
-use Rattle.gql_tree.specs.Fate.{GroupRun, ItemRun, Scope, scope_of, groups_below, fragments_below, is_announced, items_run, same_path}
+use Rattle.gql_tree.specs.Fate.{ItemRun, Scope, scope_of, fragments_below, is_announced, items_run, same_path}
 use Rattle.gql_tree.specs.Times.{Time}
 use Rattle.gql_tree.specs.Course.{Awaited, awaited_fragment, awaited_stream, course, Schedule, Way, at_first, by_owners, by_stream, Arrival, released_at, carriers, item_at}
-use Rattle.gql_tree.specs.WellFormed.{Site, works_of, root_site, keys_of, sites_below, sites, no_two, share_a_key, collide, coincide, IsWellFormed}
+use Rattle.gql_tree.specs.WellFormed.{Site, works_of, root_site, keys_of, sites_below, sites, no_two, collide, coincide, IsWellFormed}
 use Rattle.gql_confluence.proofs.Parts.{In, in_left, in_right, in_cases}
 use Rattle.gql_confluence.proofs.Lists.{to_map}
 use Rattle.gql_confluence.proofs.Deciders.{same_keys-refl, same_fragment-refl}
 use Rattle.gql_confluence.proofs.NoTwo.{one_mapped, one_flat, no_two_at, one_element, flat_mapped}
-use Rattle.gql_confluence.proofs.ScopesAll.{IsOfScope, from_inner, from_rest}
+use Rattle.gql_confluence.proofs.Scopes.{IsOfScope, from_inner, from_rest}
 
 -- a region with the time of its scope, what arrives of it, and the items of its streams
 pub record Placed : Type 0 where
@@ -125,24 +123,7 @@ module _ (p : Schedule) where
       let w = fragments_placed s around begun rel items bs x i in
       record { place = w.place; is_place = inr (in_right w.place _ (places_below s around begun rel items bs) w.is_place); arises = w.arises; of_scope = w.of_scope; when = w.when }
 
-  -- where a group of the scope was run
-  pub runs_placed : (s : Scope) (around : List Frag) (begun rel : Time) (items : List ItemRun) (bs : Branches) → (x : GroupRun) → In x (groups_below bs) → (q : Placed) × In q (places_below s around begun rel items bs) × (q.site.region ≡ x.region)
-  runs_placed s around begun rel items none x i = absurd i
-  runs_placed s around begun rel items (more (Fields g) (grown r inner) bs) x (inl e) = (_, inl refl, ap (λ (z : GroupRun). z.region) (sym e))
-  runs_placed s around begun rel items (more (Fields g) (grown r inner) bs) x (inr i) =
-      by (in_cases x (groups_below inner) (groups_below bs) i) (runs_placed s (r.fragments ++ around) begun (released_at p s begun g) (items_run inner) inner x) (runs_placed s around begun rel items bs x)
-    where
-      by : In x (groups_below inner) ⊎ In x (groups_below bs)
-          → (In x (groups_below inner) → (q : Placed) × In q (places_below s (r.fragments ++ around) begun (released_at p s begun g) (items_run inner) inner) × (q.site.region ≡ x.region))
-          → (In x (groups_below bs) → (q : Placed) × In q (places_below s around begun rel items bs) × (q.site.region ≡ x.region))
-          → (q : Placed) × In q (places_below s around begun rel items (more (Fields g) (grown r inner) bs)) × (q.site.region ≡ x.region)
-      by (inl j) h1 h2 = let w = h1 j in (w.0, inr (in_left w.0 (places_below s (r.fragments ++ around) begun (released_at p s begun g) (items_run inner) inner) (places_below s around begun rel items bs) w.1), w.2)
-      by (inr j) h1 h2 = let w = h2 j in (w.0, inr (in_right w.0 (places_below s (r.fragments ++ around) begun (released_at p s begun g) (items_run inner) inner) (places_below s around begun rel items bs) w.1), w.2)
-  runs_placed s around begun rel items (more (Item st n) (grown r inner) bs) x i =
-      let w = runs_placed s around begun rel items bs x i in (w.0, inr (in_right w.0 _ (places_below s around begun rel items bs) w.1), w.2)
-
 -- ---- each region, fragment and stream stands in one place
-
 same_numbers-refl : (ns : List ℕ) → same_lists (λ i j. i == j) ns ns ≡ true
 same_numbers-refl [] = refl
 same_numbers-refl (n ∷ ns) = let e : (n == n) ≡ true = (Decides-eqb n n).1 refl in rw (e, same_numbers-refl ns) refl

@@ -1,4 +1,4 @@
-use Rattle.gql_confluence.proofs.ConfluentAll.{confluence}
+use Rattle.gql_confluence.proofs.Confluent.{confluence}
 use Rattle.gql_confluence.proofs.laws.payloads_are_merged.Goals as goal
 
 pub returns : goal.returns

@@ -1,10 +1,8 @@
 -- The course of a well-formed forest by a lawful schedule is sound.
-use Rattle.std.proofs.Common.{◌≡◌, ◌⊎◌, inl, inr, ℕ, ◌<◌, ◌≤◌, ◌^◌, List, [], ◌∷◌, ◌++◌, length, refl, sym, subst, ◌∙◌, ap, Bool, true, false, Option, Some, arith}
-use Rattle.std.specs.Prelude.{filter}
+use Rattle.std.proofs.Common.{◌≡◌, ◌⊎◌, inl, inr, ℕ, ◌<◌, ◌≤◌, ◌^◌, List, [], ◌∷◌, ◌++◌, length, refl, sym, subst, ◌∙◌, ap, true, false, Some, arith}
 use Rattle.std.proofs.lemmas.List.{append-nil}
 use Rattle.std.specs.declared.cmp.Ordering.TheVariants.{Less}
 use Rattle.gql_tree.specs.declared.path.Key.{Key}
-use Rattle.gql_tree.specs.declared.path.Key.TheVariants.{Index}
 use Rattle.gql_tree.specs.declared.delivery.Frag.{Frag}
 use Rattle.gql_tree.specs.declared.delivery.Stream.{Stream}
 use Rattle.gql_tree.specs.declared.delivery.RegionResult.{RegionResult}
@@ -16,20 +14,19 @@ use Rattle.gql_tree.specs.Forest.{Forest, Branches, grown, none, more}
 use Rattle.gql_tree.specs.Fate.{ItemRun, Scope, scope_of, items_run}
 use Rattle.gql_tree.specs.Merged.{Part}
 use Rattle.gql_tree.specs.Times.{Time}
-use Rattle.gql_tree.specs.Course.{Schedule, Awaited, Way, at_first, by_owners, by_stream, Arrival, Course, awaited_stream, awaited_fragment, item_at, released_at, carriers, come_below, course}
-use Rattle.gql_tree.specs.WellFormed.{Site, sites, IsWellFormed}
+use Rattle.gql_tree.specs.Course.{Schedule, Awaited, Way, at_first, by_owners, by_stream, Arrival, Course, awaited_stream, item_at, released_at, carriers, come_below, course}
+use Rattle.gql_tree.specs.WellFormed.{sites, IsWellFormed}
 use Rattle.gql_tree.specs.Lawful.{IsLawful}
 use Rattle.gql_confluence.proofs.Parts.{In, in_cases, HasAt, Agree}
 use Rattle.gql_confluence.proofs.Deciders.{keys_same}
-use Rattle.gql_confluence.proofs.Soundness.{part_of, IsTimed}
-use Rattle.gql_confluence.proofs.SoundnessAll.{goes_to, is_item_at, items_at, StandsBy, OpensLists, IsGroupOf, IsItemOfStream, FollowFrom, IsStreamOf, IsSoundAll}
-use Rattle.gql_confluence.proofs.Disjoint.{value_in, part_in, Proper, Owns, IsReady}
-use Rattle.gql_confluence.proofs.DisjointAll.{owned_or, regions_agree_all}
-use Rattle.gql_confluence.proofs.SitesAll.{ListIn, list_in, no_first_list, all_sites_unique}
+use Rattle.gql_confluence.proofs.Soundness.{part_of, IsTimed, goes_to, is_item_at, items_at, OpensLists, IsGroupOf, IsItemOfStream, FollowFrom, IsStreamOf, IsSound}
+use Rattle.gql_confluence.proofs.Owning.{value_in, part_in, Proper, Owns}
+use Rattle.gql_confluence.proofs.Disjoint.{owned_or, regions_agree}
+use Rattle.gql_confluence.proofs.Sites.{ListIn, list_in, no_first_list, all_sites_unique}
 use Rattle.gql_confluence.proofs.ItemTimes.{items_come}
-use Rattle.gql_confluence.proofs.Places.{FragmentAwaited, StreamAwaited, Placed, root_place, group_place, places_below, all, is_site, one_place}
-use Rattle.gql_confluence.proofs.OwnersAll.{timed}
-use Rattle.gql_confluence.proofs.BroughtAll.{Kind, IsFirst, IsGroup, IsItem, goes_before, GroupComes, ItemComes, Comes, ComesLater, later_comes, all_comes}
+use Rattle.gql_confluence.proofs.Places.{FragmentAwaited, StreamAwaited, Placed, root_place, places_below, all, is_site, one_place}
+use Rattle.gql_confluence.proofs.Owners.{timed}
+use Rattle.gql_confluence.proofs.Brought.{Kind, IsItem, goes_before, GroupComes, ItemComes, Comes, ComesLater, later_comes, all_comes}
 use Rattle.gql_confluence.proofs.Awaits.{StreamGrows, all_awaits}
 use Rattle.gql_confluence.proofs.OneStream.{one_stream}
 
@@ -99,7 +96,7 @@ module _ (r0 : RegionResult) (bs0 : Branches) (wf : IsWellFormed (grown r0 bs0))
       let a = comes x i in
       let b = comes y j in
       let u = all_sites_unique r0 bs0 wf in
-      let sites_agree = regions_agree_all (sites f) u.0 u.1 a.place.site b.place.site (is_site r0 bs0 wf p a.place a.is_place) (is_site r0 bs0 wf p b.place b.is_place) a.ready b.ready in
+      let sites_agree = regions_agree (sites f) u.0 u.1 a.place.site b.place.site (is_site r0 bs0 wf p a.place a.is_place) (is_site r0 bs0 wf p b.place b.is_place) a.ready b.ready in
       subst (λ (w : Part). Agree w (part_of y)) (sym (ap part_of a.is ∙ a.part)) (subst (λ (w : Part). Agree (part_in a.place.site) w) (sym (ap part_of b.is ∙ b.part)) sites_agree)
 
   -- ---- where a list stands
@@ -266,7 +263,7 @@ module _ (r0 : RegionResult) (bs0 : Branches) (wf : IsWellFormed (grown r0 bs0))
     by (inl g) = inl (group_of x (inr i) g)
     by (inr g) = inr (item_of x (inr i) g)
 
-  abbrev pub sound : length c.awaited < 2 ^ 64 → IsSoundAll c
+  abbrev pub sound : length c.awaited < 2 ^ 64 → IsSound c
   sound few = record {
     few = few;
     timed = timed r0 bs0 wf p lawful;

@@ -8,7 +8,7 @@ use Rattle.gql_tree.specs.declared.delivery.RegionResult.{RegionResult}
 use Rattle.gql_tree.specs.Flat.{Mark, flat}
 use Rattle.gql_tree.specs.Extended.{marks}
 use Rattle.gql_tree.specs.Forest.{Forest, Branches, grown}
-use Rattle.gql_tree.specs.Merged.{Part, HasMark, settled, delivery}
+use Rattle.gql_tree.specs.Merged.{Part, HasMark}
 use Rattle.gql_tree.specs.Course.{Schedule, Arrival, Course, course}
 use Rattle.gql_tree.specs.Payloads.{payloads}
 use Rattle.gql_tree.specs.WellFormed.{IsWellFormed}
@@ -19,12 +19,11 @@ use Rattle.gql_merge.specs.Apply.{fresh}
 use Rattle.gql_merge.proofs.Merging.{Merges, typed_value, merged_by}
 use Rattle.gql_merge.proofs.Served.{IsServed}
 use Rattle.gql_confluence.specs.Confluence.{HasFewIds, Confluence}
-use Rattle.gql_confluence.proofs.Parts.{In, HasAt}
-use Rattle.gql_confluence.proofs.Soundness.{part_of}
-use Rattle.gql_confluence.proofs.SoundnessAll.{setting, HasAllOf}
-use Rattle.gql_confluence.proofs.InductionAll.{courses_are_served}
-use Rattle.gql_confluence.proofs.SoundAll.{sound}
-use Rattle.gql_confluence.proofs.BridgeAll.{arrived, delivered_is, settled_is}
+use Rattle.gql_confluence.proofs.Parts.{HasAt}
+use Rattle.gql_confluence.proofs.Soundness.{part_of, HasAllOf}
+use Rattle.gql_confluence.proofs.Induction.{courses_are_served}
+use Rattle.gql_confluence.proofs.Sound.{sound}
+use Rattle.gql_confluence.proofs.Bridge.{arrived, delivered_is, settled_is}
 use Rattle.gql_confluence.proofs.Lists.{in_map, to_map, contains_in, in_contains}
 
 errors_mapped : (xs : List Arrival) → flat_map (λ (p : Part). p.errors) (map part_of xs) ≡ flat_map (λ (x : Arrival). x.region.faults) xs
