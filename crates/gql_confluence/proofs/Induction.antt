@@ -1,10 +1,9 @@
--- A client that is sent the payloads of a sound course without streams, moment by moment.
-use Rattle.std.proofs.Common.{◌≡◌, ◌⊎◌, inl, inr, ℕ, ◌<◌, ◌≤◌, ◌+◌, ◌^◌, List, [], ◌∷◌, ◌++◌, map, refl, sym, subst, ◌∙◌, ap, Bool, true, false, cond, Option, Some, None, decimal, arith}
+-- A client that is sent the payloads of a sound course, moment by moment.
+use Rattle.std.proofs.Common.{◌≡◌, ◌⊎◌, inl, inr, ℕ, ◌<◌, ◌≤◌, ◌+◌, ◌^◌, List, [], ◌∷◌, ◌++◌, map, refl, sym, subst, ◌∙◌, ap, Bool, true, false, cond, Option, Some, None, decimal, arith, length}
 use Rattle.std.specs.Prelude.{filter, flat_map, not, nat_le, ◌&&◌, ◌||◌, ◌==◌, IsPermutation}
-use Rattle.std.specs.List.{list_all}
+use Rattle.std.specs.List.{list_any, list_all}
 use Rattle.std.proofs.lemmas.Slice.Eq.{bytes_eq-Decides}
 use Rattle.std.proofs.lemmas.Bool.Decides.{nat_tests, Decides-eqb}
-use Rattle.std.proofs.lemmas.List.{append-nil}
 use Rattle.std.proofs.lemmas.List.Sorted.{IsPermutation-sym, IsPermutation-trans, IsPermutation-append_right, IsPermutation-append_left}
 use Rattle.gql_tree.specs.declared.path.Key.{Key}
 use Rattle.gql_tree.specs.declared.value.Value.{Value}
@@ -14,33 +13,36 @@ use Rattle.gql_tree.specs.declared.delivery.Pending.{Pending}
 use Rattle.gql_tree.specs.declared.delivery.Entry.{Entry}
 use Rattle.gql_tree.specs.declared.delivery.Completed.{Completed}
 use Rattle.gql_tree.specs.declared.delivery.Payload.{Payload}
-use Rattle.gql_tree.specs.Flat.{flat}
+use Rattle.gql_tree.specs.Flat.{flat, Mark}
 use Rattle.gql_tree.specs.Same.{SameFlat, SameMaybe}
 use Rattle.gql_tree.specs.Sound.{SameEntries, SamePayload}
 use Rattle.gql_tree.specs.Ordered.{ordered}
 use Rattle.gql_tree.specs.Merged.{Part}
 use Rattle.gql_merge.specs.declared.state.State.{State}
 use Rattle.gql_merge.specs.Order.{Sorts, fault_cmp, failure_cmp}
-use Rattle.gql_merge.specs.Apply.{begun, failed, faults_of, is_last, is_some_open, fresh}
+use Rattle.gql_merge.specs.Apply.{begun, failed, faults_of, is_last, is_some_open, fresh, opened}
 use Rattle.gql_merge.proofs.Taken.{IsTaken}
 use Rattle.gql_merge.proofs.Served.{IsServed, served_none, served_more, taken_as}
 use Rattle.gql_tree.specs.Times.{Time, is_at, has_time}
-use Rattle.gql_tree.specs.Course.{Awaited, Way, Arrival, Course}
-use Rattle.gql_tree.specs.Payloads.{Known, known_from, all_known, awaited_cmp, pending_of, completed_of, Standing, standing_cmp, group_entries, entries_of, arrivals_at, value_at, payload_at, noted_all, moments, is_finished, next_of, payloads_from, payloads_of}
-use Rattle.gql_confluence.proofs.Parts.{In, in_left, in_right, in_cases, HasAt, Shows}
-use Rattle.gql_confluence.proofs.Accepted.{begins_Ok, AllNew, awaited_of, AllOpen, still_open, failed_of, Fits, IsFitting, Led, taken}
+use Rattle.gql_tree.specs.Course.{Awaited, Way, Arrival, Course, at_first, by_owners, by_stream}
+use Rattle.gql_tree.specs.Payloads.{Known, known_from, all_known, awaited_cmp, pending_of, completed_of, Standing, standing_cmp, group_entries, is_item_of, items_entry, stream_entries, entries_of, arrivals_at, value_at, payload_at, noted_all, moments, is_finished, next_of, payloads_from, payloads_of}
+use Rattle.gql_confluence.proofs.Parts.{In, in_left, in_right, in_cases, HasAt}
+use Rattle.gql_confluence.proofs.Lengths.{Setting, ShowsSet}
+use Rattle.gql_tree.specs.Keys.{same_lists, same_key}
+use Rattle.gql_confluence.proofs.AcceptedItems.{FitsAll, IsFitting, Led, taken, parts_of}
+use Rattle.gql_confluence.proofs.Received.{fits_received}
+use Rattle.gql_confluence.proofs.Soundness.{failure_of, is_item_at, items_at, grow, setting, IsGroupOf, IsItemOfStream, IsSound, HasAllOf, CoursesAreServed, part_of, IsTimed}
+use Rattle.gql_confluence.proofs.Entries.{same_pass, none_pass, grow_none, came, set_by, Chained}
+use Rattle.gql_tree.specs.Fate.{same_path}
+use Rattle.gql_confluence.proofs.EntriesFound.{standings, item_listed, errors_found, entries_chained}
+use Rattle.gql_confluence.proofs.Accepted.{begins_Ok, AllNew, awaited_of, AllOpen, still_open, failed_of}
 use Rattle.gql_confluence.proofs.Sorted.{flat_ordered}
 use Rattle.gql_confluence.proofs.Moments.{upto, Later, Due, later_all, due_all, due_next, step, at_end}
-use Rattle.gql_confluence.proofs.Lists.{in_filter, to_filter, in_map, to_map}
+use Rattle.gql_confluence.proofs.Lists.{in_filter, to_filter, in_map, to_map, to_any}
 use Rattle.gql_confluence.proofs.Collected.{collect, flat_filter, collect_all, collect_none, collect_split}
 use Rattle.gql_confluence.proofs.Knowns.{numbered_filter, all_numbered, is_awaited, same_known, few_numbers}
 use Rattle.gql_confluence.proofs.Pendings.{awaited_is, in_ids, Older, all_new, OfKnown, all_open, opened_known, in_still, to_still, failed_is, failures_by}
-use Rattle.gql_confluence.proofs.Soundness.{part_of, IsTimed, IsSound}
-use Rattle.gql_confluence.proofs.Entries.{part_at, fits_same, standings, no_streams, at_time, brought_at, entered, entry_of, to_entry, entries_fit, flat_errors, flat_none}
-
--- the failure of a fragment, if it has errors
-abbrev pub failure_of : Awaited → List Failure
-failure_of a = failed (record { id = []; path = a.path; label = a.label }) a.errors
+use Rattle.gql_confluence.proofs.Standings.{flat_none}
 
 failure_same : (k : Known) (fs : List Fault) → failed (pending_of k) fs ≡ failed (record { id = []; path = k.awaited.path; label = k.awaited.label }) fs
 failure_same k [] = refl
@@ -123,7 +125,7 @@ module _ (c : Course) (sound : IsSound c) where
     pub value : Value
     pub is_value : s.value ≡ Some value
     pub parts : List Part
-    pub shows : Shows s.value parts
+    pub shows : ShowsSet (setting c (λ x. upto m x.released)) s.value parts
     pub of : (y : Part) → In y parts → (x : Arrival) × In x c.arrivals × (upto m x.released ≡ true) × (y ≡ part_of x)
     pub all : (x : Arrival) → In x c.arrivals → upto m x.released ≡ true → In (part_of x) parts
     pub ids : (id : List ℕ) → In id s.ids → (k : Known) × In k ks × (upto m k.awaited.announced ≡ true) × (id ≡ decimal k.number)
@@ -241,22 +243,42 @@ module _ (c : Course) (sound : IsSound c) where
     )
 
     abbrev zs : List Standing
-    zs = ordered standing_cmp (standings c sound t late)
+    zs = ordered standing_cmp (standings c sound m t late later.0 released_step)
 
-    fits : Fits h.parts waited q.incremental (map part_at zs)
-    fits =
-        fits_same (entries_of ks (arrivals_at c t)) q.incremental (map part_at zs) h.parts waited
-        (entries_fit c sound t late h.parts waited
-        (λ y i. let o = h.of y i in (o.0, o.1, o.3))
-        (λ x u i e l. h.all x i (by x u i e l (released_step x i).0))
-        (λ k i e. opened_known ks few same waited k of_known i (closing_waits k (to_filter (λ (l : Known). is_at t l.awaited.done) k ks i (ap (is_at t) e ∙ (Decides-eqb t t).1 refl)))))
-        is.incremental
-      where
-        by : (x : Arrival) (u : ℕ) → In x c.arrivals → x.released ≡ Some u → u < t → upto t x.released ≡ (upto m x.released || is_at t x.released) → upto m x.released ≡ true
-        by x u i e l f = pick (either_true _ _ (sym f ∙ upto_some t u x.released e (omega arith))) where
-          pick : (upto m x.released ≡ true) ⊎ (is_at t x.released ≡ true) → upto m x.released ≡ true
-          pick (inl g) = g
-          pick (inr g) = let n = at_some t u x.released e g in absurd (omega arith)
+    open_known : (k : Known) → In k ks → upto t k.awaited.announced ≡ true → upto m k.awaited.done ≡ false → opened (decimal k.number) waited ≡ Some (pending_of k)
+    open_known k i e n = opened_known ks few same waited k of_known i (waits k i e n)
+
+    chained : Chained c sound m t late later.0 released_step waited open_known zs [] h.parts
+    chained = entries_chained c sound m t late later.0 released_step waited open_known h.parts (λ y i. let o = h.of y i in (o.0, o.1, o.3)) h.all
+
+    abbrev start_set : Setting
+    start_set = set_by c sound m t late later.0 released_step []
+
+    -- what came before
+    starts : setting c (λ x. upto m x.released) ≡ start_set
+    starts = λ i path raw. grow (length (filter (λ x. or_none (upto m x.released) (is_at t x.released) i) (items_at c path))) raw where
+      or_none : (a b : Bool) → a ≡ (a || (b && false))
+      or_none true b = refl
+      or_none false true = refl
+      or_none false false = refl
+
+    -- and what has come then
+    ends : set_by c sound m t late later.0 released_step chained.last ≡ setting c (λ x. upto t x.released)
+    ends = λ i path raw. grow (length (same_pass (came c sound m t late later.0 released_step chained.last) (λ x. upto t x.released) (items_at c path) (λ x j. each path x (in_filter (is_item_at path) x c.arrivals j)) i)) raw where
+      each : (path : List Key) (x : Arrival) → In x c.arrivals × (is_item_at path x ≡ true) → came c sound m t late later.0 released_step chained.last x ≡ upto t x.released
+      each path x k = by (is_at t x.released) refl ∙ sym (released_step x k.0).0 where
+        by : (b : Bool) → is_at t x.released ≡ b → (upto m x.released || (is_at t x.released && list_any (λ p. is_item_at p x) chained.last)) ≡ (upto m x.released || is_at t x.released)
+        by false e = ap (λ b. upto m x.released || (b && list_any (λ p. is_item_at p x) chained.last)) e ∙ ap (λ b. upto m x.released || b) (sym e)
+        by true e =
+            let z = item_listed c sound m t late later.0 released_step x (to_filter (λ (y : Arrival). is_at t y.released) x c.arrivals k.0 e) path k.1 in
+            let any = to_any (λ p. is_item_at p x) chained.last z.0.at (chained.dealt z.0 z.1 z.2) z.3 in
+            ap (λ b. upto m x.released || (is_at t x.released && b)) any ∙ ap (λ b. upto m x.released || b) (and_true (is_at t x.released)) where
+              and_true : (b : Bool) → (b && true) ≡ b
+              and_true true = refl
+              and_true false = refl
+
+    fits : FitsAll start_set h.parts waited q.incremental chained.pieces
+    fits = fits_received (entries_of ks (arrivals_at c t)) q.incremental chained.pieces start_set h.parts waited chained.fits is.incremental
 
     no_initial : q.initial ≡ None
     no_initial = none q.initial is.initial where
@@ -264,13 +286,13 @@ module _ (c : Course) (sound : IsSound c) where
       none None k = refl
       none (Some x) k = absurd k
 
-    abbrev fitting : IsFitting q s h.parts (map part_at zs)
+    abbrev fitting : IsFitting q s start_set h.parts chained.pieces
     fitting = record {
       begun = record s { value = Some h.value };
       begins = sym (begins_Ok q s going h.value (λ i. begun (h.is_value i) (record q { initial = no_initial i })));
       value = h.value;
       is_value = refl;
-      shows = subst (λ (o : Option Value). Shows o h.parts) h.is_value h.shows;
+      shows = subst (λ (g : Setting). ShowsSet g (Some h.value) h.parts) starts (subst (λ (o : Option Value). ShowsSet (setting c (λ x. upto m x.released)) o h.parts) h.is_value h.shows);
       new = subst (λ (ps : List Pending). AllNew s.ids ps) is.pending (all_new ks few same 0 s.ids (opening t) (numbered_filter _ 0 ks (all_numbered c)) (λ k i. (opening_in t k i).0) older);
       fits = fits;
       all_open = subst (λ (l : List Completed). AllOpen waited l) is.completed (all_open ks few same 0 (closing t) waited (numbered_filter _ 0 ks (all_numbered c)) (λ k i. (closing_in t k i).0) of_known closing_waits);
@@ -312,11 +334,10 @@ module _ (c : Course) (sound : IsSound c) where
     payload_errors =
         let one : faults_of q ≡ flat_map (λ (e : Entry). e.errors) (entries_of ks (arrivals_at c t)) = λ i. sym is.errors i ++ same_errors _ _ is.incremental i in
         let two : flat_map (λ (e : Entry). e.errors) (entries_of ks (arrivals_at c t)) ≡ flat_map (λ (z : Standing). z.entry.errors) zs = flat_entries zs in
-        let three : IsPermutation (flat_map (λ (z : Standing). z.entry.errors) zs) (flat_map (λ (z : Standing). z.entry.errors) (standings c sound t late)) = flat_ordered standing_cmp (λ z. z.entry.errors) (standings c sound t late) in
-        let four : standings c sound t late ≡ flat_map (group_entries ks) (arrivals_at c t) = ap (λ (l : List Standing). flat_map (group_entries ks) (arrivals_at c t) ++ l) (no_streams c sound (arrivals_at c t)) ∙ append-nil _ in
-        let five : flat_map (λ (z : Standing). z.entry.errors) (flat_map (group_entries ks) (arrivals_at c t)) ≡ flat_map (λ (x : Arrival). x.region.faults) (arrivals_at c t) = flat_errors c sound t late (arrivals_at c t) (brought_at c sound t late) in
+        let three : IsPermutation (flat_map (λ (z : Standing). z.entry.errors) zs) (flat_map (λ (z : Standing). z.entry.errors) (standings c sound m t late later.0 released_step)) = flat_ordered standing_cmp (λ z. z.entry.errors) (standings c sound m t late later.0 released_step) in
+        let five = errors_found c sound m t late later.0 released_step in
         let six : flat_map (λ (x : Arrival). x.region.faults) (arrivals_at c t) ≡ now_errors = flat_filter (λ (x : Arrival). x.region.faults) (λ x. is_at t x.released) c.arrivals in
-        subst (λ (l : List Fault). IsPermutation now_errors l) (sym (one ∙ two)) (IsPermutation-sym _ _ (subst (λ (l : List Fault). IsPermutation (flat_map (λ (z : Standing). z.entry.errors) zs) l) (ap (flat_map (λ (z : Standing). z.entry.errors)) four ∙ (five ∙ six)) three))
+        subst (λ (l : List Fault). IsPermutation now_errors l) (sym (one ∙ two)) (subst (λ (l : List Fault). IsPermutation l (flat_map (λ (z : Standing). z.entry.errors) zs)) six (IsPermutation-trans _ _ _ five (IsPermutation-sym _ _ three)))
 
     errors_then : (t' : State) → Sorts fault_cmp (s.errors ++ faults_of q) t'.errors → Sorts fault_cmp (errors_upto t) t'.errors
     errors_then t' k =
@@ -334,13 +355,13 @@ module _ (c : Course) (sound : IsSound c) where
         ap (failed_of s.failures waited) (sym is.completed) ∙ failed_is ks few same 0 s.failures (closing t) waited (numbered_filter _ 0 ks (all_numbered c)) (λ x i. (closing_in t x i).0) of_known closing_waits in
         (IsPermutation-trans _ _ _ a (IsPermutation-trans _ _ _ b (IsPermutation-trans _ _ _ d (subst (λ (l : List Failure). IsPermutation l t'.failures) e k.0))), k.1)
 
-    holds_then : (t' : State) → Led q s h.parts (map part_at zs) fitting t' → Holds t t'
+    holds_then : (t' : State) → Led q s start_set h.parts chained.pieces fitting t' → Holds t t'
     holds_then t' (w, shows, e) = record {
       value = w;
       is_value = e.value;
-      parts = h.parts ++ map part_at zs;
-      shows = subst (λ (o : Option Value). Shows o (h.parts ++ map part_at zs)) (sym e.value) shows;
-      of = λ y i. of_by y (in_cases y h.parts (map part_at zs) i);
+      parts = h.parts ++ parts_of chained.pieces;
+      shows = subst (λ (o : Option Value). ShowsSet (setting c (λ x. upto t x.released)) o (h.parts ++ parts_of chained.pieces)) (sym e.value) (subst (λ (g : Setting). ShowsSet g (Some w) (h.parts ++ parts_of chained.pieces)) (chained.after ∙ ends) shows);
+      of = λ y i. of_by y (in_cases y h.parts (parts_of chained.pieces) i);
       all = λ x i f. all_by x i (either_true _ _ (sym (released_step x i).0 ∙ f));
       ids = λ id i. ids_by id (in_ids id s.ids q.pending (subst (λ (l : List (List ℕ)). In id l) e.ids i));
       only = λ p i. still_only p (subst (λ (l : List Pending). In p l) e.awaited i);
@@ -348,20 +369,16 @@ module _ (c : Course) (sound : IsSound c) where
       errors = errors_then t' e.errors;
       failures = failures_then t' e.failures;
     } where
-      of_by : (y : Part) → In y h.parts ⊎ In y (map part_at zs) → (x : Arrival) × In x c.arrivals × (upto t x.released ≡ true) × (y ≡ part_of x)
+      of_by : (y : Part) → In y h.parts ⊎ In y (parts_of chained.pieces) → (x : Arrival) × In x c.arrivals × (upto t x.released ≡ true) × (y ≡ part_of x)
       of_by y (inl i) = let o = h.of y i in (o.0, o.1, (released_step o.0 o.1).0 ∙ ap (λ b. b || is_at t o.0.released) o.2, o.3)
       of_by y (inr i) =
-          let o = in_map part_at y zs i in
-          let z = entry_of c sound t late o.0 o.1 in
-          let a = at_time c sound t late z.region z.is_there in
-          (z.region, a.0, (released_step z.region a.0).0 ∙ or_true (upto m z.region.released) (is_at t z.region.released) a.1, o.2 ∙ ap part_at z.is)
+          let o = chained.fresh y i in
+          let a = in_filter (λ (x : Arrival). is_at t x.released) o.0 c.arrivals o.1 in
+          (o.0, a.0, (released_step o.0 a.0).0 ∙ or_true (upto m o.0.released) (is_at t o.0.released) a.1, o.2)
 
-      all_by : (x : Arrival) → In x c.arrivals → (upto m x.released ≡ true) ⊎ (is_at t x.released ≡ true) → In (part_of x) (h.parts ++ map part_at zs)
-      all_by x i (inl f) = in_left (part_of x) h.parts (map part_at zs) (h.all x i f)
-      all_by x i (inr f) =
-          let j = to_filter (λ (y : Arrival). is_at t y.released) x c.arrivals i f in
-          let b = brought_at c sound t late x j in
-          in_right (part_of x) h.parts (map part_at zs) (to_map part_at _ zs (to_entry c sound t late x j b (entered c sound t late x b)))
+      all_by : (x : Arrival) → In x c.arrivals → (upto m x.released ≡ true) ⊎ (is_at t x.released ≡ true) → In (part_of x) (h.parts ++ parts_of chained.pieces)
+      all_by x i (inl f) = in_left (part_of x) h.parts (parts_of chained.pieces) (h.all x i f)
+      all_by x i (inr f) = chained.all x (to_filter (λ (y : Arrival). is_at t y.released) x c.arrivals i f)
 
       ids_by : (id : List ℕ) → In id s.ids ⊎ ((p : Pending) × In p q.pending × (id ≡ p.id)) → (k : Known) × In k ks × (upto t k.awaited.announced ≡ true) × (id ≡ decimal k.number)
       ids_by id (inl i) = let o = h.ids id i in (o.0, o.1, (announced_step o.0 o.1).0 ∙ ap (λ b. b || is_at t o.0.awaited.announced) o.2, o.3)
@@ -388,17 +405,30 @@ module _ (c : Course) (sound : IsSound c) where
 
       pub taken_now : IsTaken q s (λ n. Holds t n × (n.ended ≡ is_last (next_of c us)))
       taken_now =
-          taken_as q s (Led q s h.parts (map part_at zs) fitting) (λ n. Holds t n × (n.ended ≡ is_last (next_of c us)))
+          taken_as q s (Led q s start_set h.parts chained.pieces fitting) (λ n. Holds t n × (n.ended ≡ is_last (next_of c us)))
           (λ n l. (holds_then n l, l.2.ended ∙ ap is_last (sym is.has_next)))
-          (taken q s h.parts (map part_at zs) fitting (λ w. ap (λ o. is_last o && is_some_open still) (sym is.has_next) ∙ closed_by us refl))
+          (taken q s start_set h.parts chained.pieces fitting (λ w. ap (λ o. is_last o && is_some_open still) (sym is.has_next) ∙ closed_by us refl))
 
   -- ---- the first payload
+
+  -- the time of a later region
+  time_of : (x : Arrival) → In x sound.rest → (n : ℕ) × (x.released ≡ Some n) × (1 ≤ n)
+  time_of x i = by (sound.brought x i) where
+    by : IsGroupOf c x ⊎ IsItemOfStream c x → (n : ℕ) × (x.released ≡ Some n) × (1 ≤ n)
+    by (inl b) = (b.time, b.released, b.late)
+    by (inr b) = (b.time, b.released, b.late)
+
+  awaited_of_one : (x : Arrival) → In x sound.rest → (a : Awaited) × In a c.awaited
+  awaited_of_one x i = by (sound.brought x i) where
+    by : IsGroupOf c x ⊎ IsItemOfStream c x → (a : Awaited) × In a c.awaited
+    by (inl b) = (b.carrier, b.is_awaited)
+    by (inr b) = (b.awaited, b.is_awaited)
 
   module _ (us : List ℕ) (due : AllDue 0 us) (q : Payload) (is : SamePayload (payload_at c 0 (Some (value_at sound.first)) sound.first.region.faults (next_of c us)) q) where
     -- only the initial region comes at time 0
     only_first_by : (x : Arrival) → upto 0 x.released ≡ true → In x (sound.first ∷ sound.rest) → x ≡ sound.first
     only_first_by x e (inl f) = f
-    only_first_by x e (inr i) = let b = sound.brought x i in let l = b.late in let a = some_upto 0 b.time x.released b.released e in absurd (omega arith)
+    only_first_by x e (inr i) = let b = time_of x i in let l = b.2 in let a = some_upto 0 b.0 x.released b.1 e in absurd (omega arith)
 
     only_first : (x : Arrival) → In x c.arrivals → upto 0 x.released ≡ true → x ≡ sound.first
     only_first x i e = only_first_by x e (subst (λ (l : List Arrival). In x l) sound.arrivals i)
@@ -423,8 +453,18 @@ module _ (c : Course) (sound : IsSound c) where
         let f = only_first x j.0 (at_upto x.released j.1) in
         ap (λ (w : Way). group_entries ks (record x { way = w })) (ap (λ (y : Arrival). y.way) f ∙ sound.way_first)
 
+    no_item_by : (k : Known) (w : Way) → w ≡ at_first → elim w [ at_first ↦ false | by_owners g ids ↦ false | by_stream st ↦ k.awaited.is_stream && same_path st.path k.awaited.path ] ≡ false
+    no_item_by k at_first e = refl
+    no_item_by k (by_owners g ids) e = refl
+    no_item_by k (by_stream st) e = absurd (cc)
+
+    no_list : (k : Known) → In k ks → stream_entries (arrivals_at c 0) k ≡ []
+    no_list k ik = ap (items_entry k) (none_pass (is_item_of k) (arrivals_at c 0) (λ x i.
+        let j = in_filter (λ (y : Arrival). is_at 0 y.released) x c.arrivals i in
+        no_item_by k x.way (ap (λ (y : Arrival). y.way) (only_first x j.0 (at_upto x.released j.1)) ∙ sound.way_first)))
+
     no_entries : entries_of ks (arrivals_at c 0) ≡ []
-    no_entries = λ i. map (λ (z : Standing). z.entry) (ordered standing_cmp (flat_none (group_entries ks) (arrivals_at c 0) no_group i ++ no_streams c sound (arrivals_at c 0) i))
+    no_entries = λ i. map (λ (z : Standing). z.entry) (ordered standing_cmp (flat_none (group_entries ks) (arrivals_at c 0) no_group i ++ flat_none (stream_entries (arrivals_at c 0)) ks no_list i))
 
     none_closing : closing 0 ≡ []
     none_closing = no_known (closing 0) (λ k i. let j = closing_in 0 k i in let e = at_upto k.awaited.done j.1 in let f = none_done k.awaited (is_awaited c k j.0).0 in absurd (cc)) where
@@ -451,16 +491,33 @@ module _ (c : Course) (sound : IsSound c) where
     abbrev first_part : Part
     first_part = part_of sound.first
 
-    first_shows : Shows (Some first_value.0) (first_part ∷ [])
+    abbrev first_set : Setting
+    first_set = setting c (λ x. upto 0 x.released)
+
+    -- no list has grown
+    first_set_is : (path : List Key) (m : Mark) → first_set path m ≡ m
+    first_set_is path m = ap (λ (l : List Arrival). grow (length l) m) (none_pass (λ x. upto 0 x.released) (items_at c path) (λ x i. late_item x path (in_filter (is_item_at path) x c.arrivals i) (upto 0 x.released) refl)) ∙ grow_none m where
+      way_none : (w : Way) (path : List Key) → w ≡ at_first → elim w [ at_first ↦ false | by_owners g ids ↦ false | by_stream st ↦ same_lists same_key st.path.keys path ] ≡ false
+      way_none at_first path e = refl
+      way_none (by_owners g ids) path e = refl
+      way_none (by_stream st) path e = absurd (cc)
+
+      late_item : (x : Arrival) (path : List Key) → In x c.arrivals × (is_item_at path x ≡ true) → (b : Bool) → upto 0 x.released ≡ b → upto 0 x.released ≡ false
+      late_item x path k false e = e
+      late_item x path k true e =
+          let f : is_item_at path x ≡ false = way_none x.way path (ap (λ (y : Arrival). y.way) (only_first x k.0 e) ∙ sound.way_first) in
+          let g = k.1 in absurd (cc)
+
+    first_shows : ShowsSet first_set (Some first_value.0) (first_part ∷ [])
     first_shows path m = (
-      λ h. (first_part, inl refl, (path, ap (λ (l : List Key). l ++ path) (sym sound.at_root), first_value.1 path ∙ h)),
-      λ h. back h.0 h.1 h.2,
+      λ h. (first_part, inl refl, m, (path, ap (λ (l : List Key). l ++ path) (sym sound.at_root), first_value.1 path ∙ h), sym (first_set_is path m)),
+      λ h. back h.0 h.1 h.2 h.3 (h.4 ∙ first_set_is path h.2),
     ) where
-      back : (x : Part) → In x (first_part ∷ []) → HasAt x path m → flat first_value.0 path ≡ Some m
-      back x (inl e) h =
+      back : (x : Part) → In x (first_part ∷ []) → (raw : Mark) → HasAt x path raw → m ≡ raw → flat first_value.0 path ≡ Some m
+      back x (inl e) raw h f =
           let g : path ≡ h.0 = h.1 ∙ (ap (λ (y : Part). y.at ++ h.0) e ∙ ap (λ (l : List Key). l ++ h.0) sound.at_root) in
-          sym (first_value.1 path) ∙ (ap (flat (value_at sound.first)) g ∙ (ap (λ (y : Part). flat y.value h.0) (sym e) ∙ h.2))
-      back x (inr i) h = absurd i
+          sym (first_value.1 path) ∙ (ap (flat (value_at sound.first)) g ∙ (ap (λ (y : Part). flat y.value h.0) (sym e) ∙ (h.2 ∙ ap Some (sym f))))
+      back x (inr i) raw h f = absurd i
 
     abbrev first_waited : List Pending
     first_waited = awaited_of [] q.pending
@@ -468,7 +525,7 @@ module _ (c : Course) (sound : IsSound c) where
     first_waited_is : first_waited ≡ map pending_of (opening 0)
     first_waited_is = awaited_is [] q.pending ∙ sym is.pending
 
-    abbrev first_fitting : IsFitting q fresh (first_part ∷ []) []
+    abbrev first_fitting : IsFitting q fresh first_set (first_part ∷ []) []
     first_fitting = record {
       begun = record fresh { value = Some first_value.0 };
       begins = sym (begins_Ok q fresh refl first_value.0 (ap (λ (o : Option Value). begun None (record q { initial = o })) first_value.2));
@@ -476,7 +533,7 @@ module _ (c : Course) (sound : IsSound c) where
       is_value = refl;
       shows = first_shows;
       new = subst (λ (ps : List Pending). AllNew [] ps) is.pending (all_new ks few same 0 [] (opening 0) (numbered_filter _ 0 ks (all_numbered c)) (λ k i. (opening_in 0 k i).0) (λ id i. absurd i));
-      fits = subst (λ (es : List Entry). Fits (first_part ∷ []) first_waited es []) (sym incremental_none) tt;
+      fits = subst (λ (es : List Entry). FitsAll first_set (first_part ∷ []) first_waited es []) (sym incremental_none) tt;
       all_open = subst (λ (l : List Completed). AllOpen first_waited l) (sym completed_none) tt;
     }
 
@@ -499,17 +556,17 @@ module _ (c : Course) (sound : IsSound c) where
         ∙ (λ i. is.errors i ++ flat_map (λ (e : Entry). e.errors) (sym incremental_none i)))
       where
         none_of : (x : Arrival) → In x sound.rest → upto 0 x.released ≡ false
-        none_of x i = let b = sound.brought x i in not_upto 0 b.time x.released b.released (let l = b.late in omega arith)
+        none_of x i = let b = time_of x i in not_upto 0 b.0 x.released b.1 (let l = b.2 in omega arith)
 
     first_failures : failures_upto 0 ≡ failed_of [] first_waited q.completed
     first_failures = collect_none failure_of (λ a. upto 0 a.done) c.awaited none_done ∙ ap (failed_of [] first_waited) (sym completed_none)
 
-    first_holds : (n : State) → Led q fresh (first_part ∷ []) [] first_fitting n → Holds 0 n
+    first_holds : (n : State) → Led q fresh first_set (first_part ∷ []) [] first_fitting n → Holds 0 n
     first_holds n (w, shows, e) = record {
       value = w;
       is_value = e.value;
       parts = first_part ∷ [];
-      shows = subst (λ (o : Option Value). Shows o (first_part ∷ [])) (sym e.value) shows;
+      shows = subst (λ (o : Option Value). ShowsSet first_set o (first_part ∷ [])) (sym e.value) shows;
       of = of_by;
       all = λ x i f. inl (ap part_of (only_first x i f));
       ids = λ id i. ids_by id (in_ids id [] q.pending (subst (λ (l : List (List ℕ)). In id l) e.ids i));
@@ -545,24 +602,11 @@ module _ (c : Course) (sound : IsSound c) where
 
       pub first_taken : IsTaken q fresh (λ n. Holds 0 n × (n.ended ≡ is_last (next_of c us)))
       first_taken =
-          taken_as q fresh (Led q fresh (first_part ∷ []) [] first_fitting) (λ n. Holds 0 n × (n.ended ≡ is_last (next_of c us)))
+          taken_as q fresh (Led q fresh first_set (first_part ∷ []) [] first_fitting) (λ n. Holds 0 n × (n.ended ≡ is_last (next_of c us)))
           (λ n l. (first_holds n l, l.2.ended ∙ ap is_last (sym is.has_next)))
-          (taken q fresh (first_part ∷ []) [] first_fitting (λ w. ap (λ o. is_last o && is_some_open first_still) (sym is.has_next) ∙ first_closed_by us refl))
+          (taken q fresh first_set (first_part ∷ []) [] first_fitting (λ w. ap (λ o. is_last o && is_some_open first_still) (sym is.has_next) ∙ first_closed_by us refl))
 
   -- ---- all payloads
-
-  -- what a client has in the end
-  pub record HasAll (s : State) : Type 0 where
-    pub value : Value
-    pub is_value : s.value ≡ Some value
-    pub parts : List Part
-    pub shows : Shows s.value parts
-    pub of : (y : Part) → In y parts → (x : Arrival) × In x c.arrivals × (y ≡ part_of x)
-    pub all : (x : Arrival) → In x c.arrivals → In (part_of x) parts
-    pub errors : Sorts fault_cmp (flat_map (λ (x : Arrival). x.region.faults) c.arrivals) s.errors
-    pub failures : Sorts failure_cmp (flat_map failure_of c.awaited) s.failures
-    pub none_open : s.awaited ≡ []
-    pub ended : s.ended ≡ true
 
   -- a last payload says so
   last_next : is_finished c ≡ true → is_last (next_of c []) ≡ true
@@ -584,12 +628,12 @@ module _ (c : Course) (sound : IsSound c) where
   finished : is_finished c ≡ true
   finished = all_finished c.awaited sound.timed
 
-  has_all : (m : ℕ) (s : State) → AllDue m [] → Holds m s → s.ended ≡ true → HasAll s
+  has_all : (m : ℕ) (s : State) → AllDue m [] → Holds m s → s.ended ≡ true → HasAllOf c s
   has_all m s due h e = record {
     value = h.value;
     is_value = h.is_value;
     parts = h.parts;
-    shows = h.shows;
+    shows = subst (λ (g : Setting). ShowsSet g s.value h.parts) (λ i path raw. grow (length (same_pass (λ x. upto m x.released) (λ x. true) (items_at c path) (λ x j. at_end m x.released (due.released x (in_filter (is_item_at path) x c.arrivals j).0)) i)) raw) h.shows;
     of = λ y i. let o = h.of y i in (o.0, o.1, o.3);
     all = λ x i. h.all x i (at_end m x.released (due.released x i));
     errors = (subst (λ (l : List Fault). IsPermutation l s.errors) (collect_all (λ (x : Arrival). x.region.faults) (λ x. upto m x.released) c.arrivals (λ x i. at_end m x.released (due.released x i))) h.errors.0, h.errors.1);
@@ -598,11 +642,11 @@ module _ (c : Course) (sound : IsSound c) where
     ended = e;
   }
 
-  served_from : (us : List ℕ) (m : ℕ) (s : State) → Later m us → AllDue m us → (c.awaited ≡ [] → us ≡ []) → Holds m s → s.ended ≡ is_last (next_of c us) → IsServed s (payloads_from c us) HasAll
-  served_from [] m s later due none h e = served_none s HasAll (has_all m s due h (e ∙ last_next finished))
+  served_from : (us : List ℕ) (m : ℕ) (s : State) → Later m us → AllDue m us → (c.awaited ≡ [] → us ≡ []) → Holds m s → s.ended ≡ is_last (next_of c us) → IsServed s (payloads_from c us) (HasAllOf c)
+  served_from [] m s later due none h e = served_none s (HasAllOf c) (has_all m s due h (e ∙ last_next finished))
   served_from (t ∷ us) m s later due none h e =
       let some : c.awaited ≡ [] → ⊥ = λ f. cons_nil t us (none f) in
-      served_more s HasAll (payload_at c t None [] (next_of c us)) (payloads_from c us) (λ n. Holds t n × (n.ended ≡ is_last (next_of c us)))
+      served_more s (HasAllOf c) (payload_at c t None [] (next_of c us)) (payloads_from c us) (λ n. Holds t n × (n.ended ≡ is_last (next_of c us)))
       (λ q is. taken_now m t us later due s h (e ∙ more_next t us some) q is (more_by us some))
       (λ n k. served_from us t n later.1 (all_due_next m t us later.0 due) (λ f. absurd (some f)) k.0 k.1)
     where
@@ -615,7 +659,7 @@ module _ (c : Course) (sound : IsSound c) where
 
   released_some_by : (x : Arrival) → In x (sound.first ∷ sound.rest) → (a : ℕ) × (x.released ≡ Some a)
   released_some_by x (inl e) = (0, ap (λ (y : Arrival). y.released) e ∙ sound.at_start)
-  released_some_by x (inr i) = let b = sound.brought x i in (b.time, b.released)
+  released_some_by x (inr i) = let b = time_of x i in (b.0, b.1)
 
   start_due : AllDue 0 (moments c)
   start_due = record {
@@ -628,7 +672,7 @@ module _ (c : Course) (sound : IsSound c) where
   -- nothing comes later where nothing is announced
   nothing_later : c.awaited ≡ [] → moments c ≡ []
   nothing_later e =
-      let rest : sound.rest ≡ [] = no_arrivals sound.rest (λ x i. let b = sound.brought x i in subst (λ (l : List Awaited). In b.carrier l) e b.is_awaited) in
+      let rest : sound.rest ≡ [] = no_arrivals sound.rest (λ x i. let b = awaited_of_one x i in subst (λ (l : List Awaited). In b.0 l) e b.1) in
       let all : c.arrivals ≡ sound.first ∷ [] = sound.arrivals ∙ ap (λ (l : List Arrival). sound.first ∷ l) rest in
       (λ i. noted_all (map (λ x. x.announced) (e i) ++ (map (λ x. x.released) (all i) ++ map (λ x. x.done) (e i)))) ∙ ap (λ (u : Time). noted_all (u ∷ [])) sound.at_start
     where
@@ -637,12 +681,15 @@ module _ (c : Course) (sound : IsSound c) where
       no_arrivals (x ∷ xs) h = absurd (h x (inl refl))
 
   -- the payloads of a sound course are taken, and the client has all that arrives
-  pub course_served : IsServed fresh (payloads_of sound.first.region c) HasAll
+  pub course_served : IsServed fresh (payloads_of sound.first.region c) (HasAllOf c)
   course_served =
-      served_more fresh HasAll (payload_at c 0 (Some (value_at sound.first)) sound.first.region.faults (next_of c (moments c))) (payloads_from c (moments c)) (λ n. Holds 0 n × (n.ended ≡ is_last (next_of c (moments c))))
+      served_more fresh (HasAllOf c) (payload_at c 0 (Some (value_at sound.first)) sound.first.region.faults (next_of c (moments c))) (payloads_from c (moments c)) (λ n. Holds 0 n × (n.ended ≡ is_last (next_of c (moments c))))
       (λ q is. first_taken (moments c) start_due q is (more_by (moments c) nothing_later))
       (λ n k. served_from (moments c) 0 n (later_all (map (λ a. a.announced) c.awaited ++ (map (λ x. x.released) c.arrivals ++ map (λ a. a.done) c.awaited))) start_due nothing_later k.0 k.1)
     where
       more_by : (us : List ℕ) → (c.awaited ≡ [] → us ≡ []) → (us ≡ [] → ⊥) → is_last (next_of c us) ≡ false
       more_by [] none h = absurd (h refl)
       more_by (u ∷ us) none h = more_next u us (λ e. h (none e))
+
+pub courses_are_served : CoursesAreServed
+courses_are_served c sound = course_served c sound

@@ -18,12 +18,11 @@ use Rattle.gql_tree.specs.Payloads.{Known, all_known, pending_of, completed_of, 
 use Rattle.gql_tree.specs.Lawful.{is_done_in_time}
 use Rattle.gql_confluence.specs.Confluence.{announced_ids, completed_ids, HasOneRecord, IdsAreCompleted}
 use Rattle.gql_confluence.proofs.Parts.{In, in_left, in_right}
-use Rattle.gql_confluence.proofs.Lists.{in_filter, in_map, to_map, all_at}
 use Rattle.gql_confluence.proofs.Moments.{Later, later_all, due_all}
 use Rattle.gql_confluence.proofs.Knowns.{Numbered, numbered_at, all_numbered, is_awaited, same_known, few_numbers, one_decimal}
 use Rattle.gql_confluence.proofs.Soundness.{IsTimed}
-use Rattle.gql_confluence.proofs.Owners.{timed_of}
-use Rattle.gql_confluence.proofs.Confluent.{contains_in}
+use Rattle.gql_confluence.proofs.Earliest.{timed_of}
+use Rattle.gql_confluence.proofs.Lists.{in_filter, in_map, to_map, all_at, contains_in}
 
 -- ---- counting ids
 

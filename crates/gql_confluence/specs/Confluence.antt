@@ -10,7 +10,7 @@ use Rattle.gql_merge.specs.Merging.{SamePayloads, Hears, HasMerged}
 use Rattle.gql_tree.specs.Course.{Schedule, course}
 use Rattle.gql_tree.specs.Payloads.{payloads}
 use Rattle.gql_tree.specs.Numbering.{times, is_complete}
-use Rattle.gql_tree.specs.WellFormed.{IsWellFormed, HasNoStreams}
+use Rattle.gql_tree.specs.WellFormed.{IsWellFormed}
 use Rattle.gql_tree.specs.Lawful.{IsLawful}
 
 -- fewer than 2 ^ 64 ids are given; an id is a number in decimal, and numbers below 2 ^ 64 have different texts
@@ -24,10 +24,6 @@ AreTaken f p = (ps qs : List Payload) (e : MergeRefusal) → SamePayloads (paylo
 -- and has the defined response in the end, in which no schedule occurs
 abbrev pub AreMerged : Forest → Schedule → Type 0
 AreMerged f p = (ps : List Payload) (t : State) → SamePayloads (payloads f p) ps → Hears ps (Ok t) → IsTypedState t → HasMerged f t
-
--- for well-formed forests without streams and lawful schedules
-abbrev pub ConfluenceWithoutStreams : Type 0
-ConfluenceWithoutStreams = (f : Forest) (p : Schedule) → IsWellFormed f → HasNoStreams f → IsLawful f p → HasFewIds f p → AreTaken f p × AreMerged f p
 
 -- for all well-formed forests and lawful schedules
 abbrev pub Confluence : Type 0
@@ -50,6 +46,6 @@ HasOneRecord ps = (before after : List Payload) (q : Payload) (id : List ℕ) �
 abbrev pub IdsAreCompleted : Type 0
 IdsAreCompleted = (f : Forest) (p : Schedule) → IsLawful f p → HasFewIds f p → HasOneRecord (payloads f p)
 
--- the times of a complete order of a forest without streams are lawful
+-- the times of a complete order of a well-formed forest are lawful
 abbrev pub CompleteOrdersAreLawful : Type 0
-CompleteOrdersAreLawful = (f : Forest) (ns : List ℕ) → HasNoStreams f → is_complete f ns ≡ true → IsLawful f (times f ns)
+CompleteOrdersAreLawful = (f : Forest) (ns : List ℕ) → IsWellFormed f → is_complete f ns ≡ true → IsLawful f (times f ns)

@@ -6,7 +6,7 @@ ghost use Rattle.gql_tree.specs.Payloads.{payloads};
 ghost use Rattle.gql_tree.specs.Numbering.{times, is_order, is_complete, inline_order};
 ghost use Rattle.gql_tree.specs.WellFormed.{IsWellFormed};
 ghost use Rattle.gql_tree.specs.Lawful.{IsLawful};
-ghost use Rattle.gql_confluence.specs.Confluence.{ConfluenceWithoutStreams, IdsAreCompleted, CompleteOrdersAreLawful};
+ghost use Rattle.gql_confluence.specs.Confluence.{Confluence, IdsAreCompleted, CompleteOrdersAreLawful};
 ghost use Rattle.gql_confluence.specs.WorkedDocuments.{empty_fragment, empty_around_another, deferred_at_the_top, one_shared_group, inside_a_failed_one, two_that_fail, failed_item, null_item, whole_list, fragments_in_items, stream_in_a_fragment, done_at_the_start, items_backwards};
 ghost use Rattle.gql_confluence.specs.WorkedPayloads.{behind_a_failed_one_payloads, empty_fragment_payloads, empty_around_another_payloads, deferred_at_the_top_payloads, a_first, b_first, both_together, inside_a_failed_one_payloads, failed_together, failed_b_first, failed_item_payloads, null_item_payloads, from_the_last, fragments_in_items_payloads, stream_in_a_fragment_payloads};
 
@@ -67,10 +67,10 @@ pub fn schedules_that_are_not_lawful()
     ensures backwards { IsLawful whole_list items_backwards → ⊥ }
 {}
 
-/// A client that is sent the payloads of a well-formed forest without streams by a lawful schedule, up to the order of
-/// members, takes each of them, and has the defined response in the end, if its value can exist.
-pub fn payloads_without_streams_are_merged()
-    ensures { ConfluenceWithoutStreams }
+/// A client that is sent the payloads of a well-formed forest by a lawful schedule, up to the order of members, takes
+/// each of them, and has the defined response in the end, if its value can exist.
+pub fn payloads_are_merged()
+    ensures { Confluence }
 {}
 
 /// By a lawful schedule each announced id stands in one pending and in one completed record, the latter in no earlier
@@ -79,7 +79,7 @@ pub fn ids_are_completed()
     ensures { IdsAreCompleted }
 {}
 
-/// The times of a complete order of a forest without streams are lawful.
+/// The times of a complete order of a well-formed forest are lawful.
 pub fn complete_orders_are_lawful()
     ensures { CompleteOrdersAreLawful }
 {}

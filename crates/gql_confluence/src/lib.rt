@@ -7,7 +7,7 @@
 mod laws;
 
 pub use laws::{
-    complete_orders_are_lawful, ids_are_completed, orders_of_tasks, payloads_of_fragments,
-    payloads_of_streams, payloads_without_streams_are_merged, schedules_that_are_not_lawful,
+    complete_orders_are_lawful, ids_are_completed, orders_of_tasks, payloads_are_merged,
+    payloads_of_fragments, payloads_of_streams, schedules_that_are_not_lawful,
     worked_orders_are_lawful,
 };
