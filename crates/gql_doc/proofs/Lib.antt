@@ -2,6 +2,7 @@ pub mod Quoted
 pub mod Blocks
 pub mod Rooms
 pub mod Loops
+pub mod Shrinking
 pub mod Lone
 pub mod Sets
 pub mod Predictive

@@ -58,9 +58,9 @@ pub(crate) struct Parser<'a> {
 }
 
 impl<'a> Parser<'a> {
-    ghost use Rattle.gql_doc.specs.inner.Left.{left, behind_first};
+    ghost use Rattle.gql_doc.specs.inner.Left.{left, source, behind_first};
     ghost use Rattle.gql_doc.specs.inner.Outcomes.{next_spot};
-    ghost use Rattle.gql_doc.specs.inner.Reading.{Gives, next_is, take};
+    ghost use Rattle.gql_doc.specs.inner.Reading.{Gives, next_is, is_any, take};
     ghost use Rattle.gql_doc.specs.declared.parser.Stop.TheVariants as stop;
 
     pub(crate) fn new(alloc: Global, tokens: &'a [Token<'a>]) -> Parser<'a>
@@ -73,11 +73,11 @@ impl<'a> Parser<'a> {
         }
     }
 
-    /// How many tokens are left.
-    pub(crate) fn count(&self) -> usize
-        ensures { result ≡ length (left self.now) }
+    /// Whether a token is left.
+    pub(crate) fn has_next(&self) -> bool
+        ensures { result ≡ next_is is_any (left self.now) }
     {
-        self.tokens.len() - self.at
+        self.tokens.get(self.at).is_some()
     }
 
     /// Where the next token begins.
@@ -102,7 +102,8 @@ impl<'a> Parser<'a> {
 
     /// Takes the next token, which is to be this terminal.
     pub(crate) fn take(&mut self, terminal: Terminal) -> Result<&'a Token<'a>, Stop>
-        ensures { Gives (λ token. lexeme token.now) result (left self.new) (take (matches terminal) (left self.old)) }
+        ensures reads { Gives (λ token. lexeme token.now) result (left self.new) (take (matches terminal) (left self.old)) }
+        ensures same { source self.new ≡ source self.old }
     {
         match self.tokens.get(self.at) {
             Some(token) if terminal.matches(token) => {

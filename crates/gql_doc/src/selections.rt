@@ -2,7 +2,7 @@
 
 ghost use Rattle.std.specs.Prelude.{codes, ◌≡◌, option_map, MatchResult};
 ghost use Rattle.gql_lex.specs.Tokens.{lexeme};
-ghost use Rattle.gql_doc.specs.inner.Left.{left};
+ghost use Rattle.gql_doc.specs.inner.Left.{left, source};
 ghost use Rattle.gql_doc.specs.Grammar.{alias_by, name_by, inline_spot};
 ghost use Rattle.gql_doc.specs.Terminals.{is_punctuator, is_word, is_name};
 ghost use Rattle.gql_doc.specs.declared.parser.Stop.TheVariants as stop;
@@ -19,7 +19,8 @@ impl<'a> Parser<'a> {
     #[cycle(selection)]
     #[tactic(auto, using(crate::proofs::Rooms::selection_set_more, crate::proofs::Rooms::selection_set_none))]
     pub(crate) fn selection_set(&mut self, room: u32) -> Result<(Spot, Listed<Selection>), Stop>
-        ensures { Gives (λ x. x) result (left self.new) (selection_set room (left self.old)) }
+        ensures reads { Gives (λ x. x) result (left self.new) (selection_set room (left self.old)) }
+        ensures same { source self.new ≡ source self.old }
     {
         if room == 0 {
             return Err(Stop::where_shut(self.next_is(Terminal::Punctuator("{"))));
@@ -34,13 +35,11 @@ impl<'a> Parser<'a> {
     /// `Selection*`
     #[cycle(selection)]
     fn some_selections(&mut self, room: u32) -> Result<Listed<Selection>, Stop>
-        ensures { Gives (λ x. x) result (left self.new) (many begins_selection (any_selection room (selections room)) (left self.old)) }
+        ensures reads { Gives (λ x. x) result (left self.new) (many begins_selection (any_selection room (selections room)) (left self.old)) }
+        ensures same { source self.new ≡ source self.old }
     {
         let mut selections = Listed::new(self.alloc);
-        for _ in 0..self.count() {
-            if !self.next_is_selection() {
-                return Ok(selections);
-            }
+        while self.next_is_selection() {
             selections.push(self.selection(room)?)?;
         }
         Ok(selections)
@@ -57,7 +56,8 @@ impl<'a> Parser<'a> {
     #[cycle(selection)]
     #[tactic(auto, unfolding(crate::specs::inner::Reading::selections))]
     pub(crate) fn selections(&mut self, room: u32) -> Result<Listed<Selection>, Stop>
-        ensures { Gives (λ x. x) result (left self.new) (selections room (left self.old)) }
+        ensures reads { Gives (λ x. x) result (left self.new) (selections room (left self.old)) }
+        ensures same { source self.new ≡ source self.old }
     {
         let (_, selections) = self.selection_set(room)?;
         Ok(selections)
@@ -67,7 +67,8 @@ impl<'a> Parser<'a> {
     #[cycle(selection)]
     #[tactic(auto, unfolding(crate::specs::inner::Reading::any_selection))]
     fn selection(&mut self, room: u32) -> Result<Selection, Stop>
-        ensures { Gives (λ x. x) result (left self.new) (any_selection room (selections room) (left self.old)) }
+        ensures reads { Gives (λ x. x) result (left self.new) (any_selection room (selections room) (left self.old)) }
+        ensures same { source self.new ≡ source self.old }
     {
         if self.next_is(Terminal::Name) {
             return self.field(room);
@@ -84,7 +85,8 @@ impl<'a> Parser<'a> {
     #[cycle(selection)]
     #[tactic(auto, unfolding(crate::specs::inner::Reading::field))]
     fn field(&mut self, room: u32) -> Result<Selection, Stop>
-        ensures { Gives (λ x. x) result (left self.new) (field room (selections room) (left self.old)) }
+        ensures reads { Gives (λ x. x) result (left self.new) (field room (selections room) (left self.old)) }
+        ensures same { source self.new ≡ source self.old }
     {
         let first = self.take(Terminal::Name)?;
         if self.next_is(Terminal::FieldPart) {
@@ -112,7 +114,8 @@ impl<'a> Parser<'a> {
     #[cycle(selection)]
     #[tactic(auto, unfolding(crate::specs::inner::Reading::behind_name))]
     fn behind_name(&mut self, room: u32, first: &Token<'_>) -> Result<Selection, Stop>
-        ensures { Gives (λ x. x) result (left self.new) (behind_name room (selections room) (lexeme first.now) (left self.old)) }
+        ensures reads { Gives (λ x. x) result (left self.new) (behind_name room (selections room) (lexeme first.now) (left self.old)) }
+        ensures same { source self.new ≡ source self.old }
     {
         let second = self.aliased()?;
         self.behind_names(room, first, second)
@@ -127,7 +130,8 @@ impl<'a> Parser<'a> {
         first: &Token<'_>,
         second: Option<&Token<'_>>,
     ) -> Result<Selection, Stop>
-        ensures { Gives (λ x. x) result (left self.new) (behind_names room (selections room) (lexeme first.now) (option_map (λ token. lexeme token.now) second.entry) (left self.old)) }
+        ensures reads { Gives (λ x. x) result (left self.new) (behind_names room (selections room) (lexeme first.now) (option_map (λ token. lexeme token.now) second.entry) (left self.old)) }
+        ensures same { source self.new ≡ source self.old }
     {
         let arguments = self.arguments(false, room)?;
         let directives = self.directives(false, room)?;
@@ -146,7 +150,8 @@ impl<'a> Parser<'a> {
     /// `SelectionSet?`
     #[cycle(selection)]
     fn maybe_selections(&mut self, room: u32) -> Result<Listed<Selection>, Stop>
-        ensures { Gives (λ x. x) result (left self.new) (listed (is_punctuator (codes "{")) (selections room) (left self.old)) }
+        ensures reads { Gives (λ x. x) result (left self.new) (listed (is_punctuator (codes "{")) (selections room) (left self.old)) }
+        ensures same { source self.new ≡ source self.old }
     {
         if self.next_is(Terminal::Punctuator("{")) {
             self.selections(room)
@@ -171,7 +176,8 @@ impl<'a> Parser<'a> {
 
     /// The name behind an alias and its colon, where a colon stands next.
     fn aliased(&mut self) -> Result<Option<&'a Token<'a>>, Stop>
-        ensures { Gives (λ found. option_map (λ token. lexeme token.now) found) result (left self.new) (optional (is_punctuator (codes ":")) aliased (left self.old)) }
+        ensures reads { Gives (λ found. option_map (λ token. lexeme token.now) found) result (left self.new) (optional (is_punctuator (codes ":")) aliased (left self.old)) }
+        ensures same { source self.new ≡ source self.old }
     {
         if !self.next_is(Terminal::Punctuator(":")) {
             return Ok(None);
@@ -183,7 +189,8 @@ impl<'a> Parser<'a> {
     /// `FragmentSpread`, behind its `...`
     #[tactic(auto, unfolding(crate::specs::inner::Reading::spread))]
     fn spread(&mut self, room: u32) -> Result<Selection, Stop>
-        ensures { Gives (λ x. x) result (left self.new) (spread room (left self.old)) }
+        ensures reads { Gives (λ x. x) result (left self.new) (spread room (left self.old)) }
+        ensures same { source self.new ≡ source self.old }
     {
         let word = self.take(Terminal::FragmentName)?;
         let directives = self.directives(false, room)?;
@@ -198,7 +205,8 @@ impl<'a> Parser<'a> {
     #[cycle(selection)]
     #[tactic(auto, unfolding(crate::specs::inner::Reading::inline_fragment))]
     fn inline_fragment(&mut self, room: u32, dots: Spot) -> Result<Selection, Stop>
-        ensures { Gives (λ x. x) result (left self.new) (inline_fragment room (selections room) dots (left self.old)) }
+        ensures reads { Gives (λ x. x) result (left self.new) (inline_fragment room (selections room) dots (left self.old)) }
+        ensures same { source self.new ≡ source self.old }
     {
         let condition = self.maybe_type_condition()?;
         let directives = self.directives(false, room)?;
@@ -213,7 +221,8 @@ impl<'a> Parser<'a> {
 
     /// `TypeCondition?`
     fn maybe_type_condition(&mut self) -> Result<Option<&'a Token<'a>>, Stop>
-        ensures { Gives (λ found. option_map (λ token. lexeme token.now) found) result (left self.new) (optional is_on type_condition (left self.old)) }
+        ensures reads { Gives (λ found. option_map (λ token. lexeme token.now) found) result (left self.new) (optional is_on type_condition (left self.old)) }
+        ensures same { source self.new ≡ source self.old }
     {
         if !self.next_is(Terminal::Word("on")) {
             return Ok(None);
@@ -223,7 +232,8 @@ impl<'a> Parser<'a> {
 
     /// `TypeCondition`
     pub(crate) fn type_condition(&mut self) -> Result<&'a Token<'a>, Stop>
-        ensures { Gives (λ token. lexeme token.now) result (left self.new) (type_condition (left self.old)) }
+        ensures reads { Gives (λ token. lexeme token.now) result (left self.new) (type_condition (left self.old)) }
+        ensures same { source self.new ≡ source self.old }
     {
         self.take(Terminal::Word("on"))?;
         self.take(Terminal::Name)

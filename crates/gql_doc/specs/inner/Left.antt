@@ -10,3 +10,7 @@ behind_first tokens count = map lexeme (drop count tokens)
 
 abbrev pub left : Parser → List Lexeme
 left parser = behind_first parser.tokens.now parser.at
+
+-- what the parser reads, however far it is
+abbrev pub source : Parser → List Token
+source parser = parser.tokens.now

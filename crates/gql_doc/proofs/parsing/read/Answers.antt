@@ -9,4 +9,4 @@ use Rattle.gql_doc.proofs.parsing.read.Goals as goal
 
 pub returns-in-Err : goal.returns-in-Err
 returns-in-Err c = Fails-outcome c.in-Err.why (left c.document.new.self) (document limit (map lexeme c.args.tokens.now)) c.args.end c.refusal_of.result
-    (rw c.new-parser.ensures at c.in-Err.ensures) (c.refusal_of.ensures ∙ ap (λ next. refusal_of c.in-Err.why next c.args.end) c.next_spot.ensures)
+    (rw c.new-parser.ensures at c.in-Err.ensures.reads) (c.refusal_of.ensures ∙ ap (λ next. refusal_of c.in-Err.why next c.args.end) c.next_spot.ensures)
