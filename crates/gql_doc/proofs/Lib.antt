@@ -15,7 +15,7 @@ pub mod StringTexts
 pub mod Unescaped
 pub mod Meant
 pub mod Written
-pub mod Lexed
+pub mod Coming
 pub mod Parsed
 pub mod WrittenStrings
 pub mod Writing

@@ -1,11 +1,11 @@
 -- Readers that leave fewer tokens where they give a value.
-use Rattle.std.proofs.Common.{◌≡◌, ℕ, suc, ◌+◌, ◌<◌, Bool, false, true, List, [], ◌∷◌, ◌++◌, length, Ok, sym, ap, ◌∙◌, length-append, arith}
+use Rattle.std.proofs.Common.{◌≡◌, ℕ, suc, ◌+◌, ◌<◌, Bool, false, List, [], ◌∷◌, ◌++◌, length, ap, ◌∙◌, length-append, arith}
 use Rattle.gql_lex.specs.Tokens.{Lexeme}
 use Rattle.gql_doc.specs.Phrase.{Phrase}
 use Rattle.gql_doc.specs.Grammar as grammar
 use Rattle.gql_doc.specs.inner.Reading.{Reader, value, argument, directive, variable_definition, any_selection, selections, any_definition}
 use Rattle.gql_doc.proofs.Sets.{Set}
-use Rattle.gql_doc.proofs.Predictive.{Found, Predictive, false_true}
+use Rattle.gql_doc.proofs.Predictive.{Predictive, false_true}
 use Rattle.gql_doc.proofs.Productions.{value-predictive, argument-predictive, directive-predictive, variable_definition-predictive, selection-predictive, selections-predictive, definition-predictive}
 use Rattle.gql_doc.proofs.Loops.{Shrinks}
 

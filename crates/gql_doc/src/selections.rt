@@ -2,7 +2,7 @@
 
 ghost use Rattle.std.specs.Prelude.{codes, ◌≡◌, option_map, MatchResult};
 ghost use Rattle.gql_lex.specs.Tokens.{lexeme};
-ghost use Rattle.gql_doc.specs.inner.Left.{left, source};
+ghost use Rattle.gql_doc.specs.inner.Left.{left, text_end};
 ghost use Rattle.gql_doc.specs.Grammar.{alias_by, name_by, inline_spot};
 ghost use Rattle.gql_doc.specs.Terminals.{is_punctuator, is_word, is_name};
 ghost use Rattle.gql_doc.specs.declared.parser.Stop.TheVariants as stop;
@@ -20,7 +20,7 @@ impl<'a> Parser<'a> {
     #[tactic(auto, using(crate::proofs::Rooms::selection_set_more, crate::proofs::Rooms::selection_set_none))]
     pub(crate) fn selection_set(&mut self, room: u32) -> Result<(Spot, Listed<Selection>), Stop>
         ensures reads { Gives (λ x. x) result (left self.new) (selection_set room (left self.old)) }
-        ensures same { source self.new ≡ source self.old }
+        ensures same { text_end self.new ≡ text_end self.old }
     {
         if room == 0 {
             return Err(Stop::where_shut(self.next_is(Terminal::Punctuator("{"))));
@@ -36,7 +36,7 @@ impl<'a> Parser<'a> {
     #[cycle(selection)]
     fn some_selections(&mut self, room: u32) -> Result<Listed<Selection>, Stop>
         ensures reads { Gives (λ x. x) result (left self.new) (many begins_selection (any_selection room (selections room)) (left self.old)) }
-        ensures same { source self.new ≡ source self.old }
+        ensures same { text_end self.new ≡ text_end self.old }
     {
         let mut selections = Listed::new(self.alloc);
         while self.next_is_selection() {
@@ -57,7 +57,7 @@ impl<'a> Parser<'a> {
     #[tactic(auto, unfolding(crate::specs::inner::Reading::selections))]
     pub(crate) fn selections(&mut self, room: u32) -> Result<Listed<Selection>, Stop>
         ensures reads { Gives (λ x. x) result (left self.new) (selections room (left self.old)) }
-        ensures same { source self.new ≡ source self.old }
+        ensures same { text_end self.new ≡ text_end self.old }
     {
         let (_, selections) = self.selection_set(room)?;
         Ok(selections)
@@ -68,7 +68,7 @@ impl<'a> Parser<'a> {
     #[tactic(auto, unfolding(crate::specs::inner::Reading::any_selection))]
     fn selection(&mut self, room: u32) -> Result<Selection, Stop>
         ensures reads { Gives (λ x. x) result (left self.new) (any_selection room (selections room) (left self.old)) }
-        ensures same { source self.new ≡ source self.old }
+        ensures same { text_end self.new ≡ text_end self.old }
     {
         if self.next_is(Terminal::Name) {
             return self.field(room);
@@ -86,13 +86,13 @@ impl<'a> Parser<'a> {
     #[tactic(auto, unfolding(crate::specs::inner::Reading::field))]
     fn field(&mut self, room: u32) -> Result<Selection, Stop>
         ensures reads { Gives (λ x. x) result (left self.new) (field room (selections room) (left self.old)) }
-        ensures same { source self.new ≡ source self.old }
+        ensures same { text_end self.new ≡ text_end self.old }
     {
         let first = self.take(Terminal::Name)?;
         if self.next_is(Terminal::FieldPart) {
-            self.behind_name(room, first)
+            self.behind_name(room, &first)
         } else {
-            self.lone_field(first)
+            self.lone_field(&first)
         }
     }
 
@@ -115,7 +115,7 @@ impl<'a> Parser<'a> {
     #[tactic(auto, unfolding(crate::specs::inner::Reading::behind_name))]
     fn behind_name(&mut self, room: u32, first: &Token<'_>) -> Result<Selection, Stop>
         ensures reads { Gives (λ x. x) result (left self.new) (behind_name room (selections room) (lexeme first.now) (left self.old)) }
-        ensures same { source self.new ≡ source self.old }
+        ensures same { text_end self.new ≡ text_end self.old }
     {
         let second = self.aliased()?;
         self.behind_names(room, first, second)
@@ -128,10 +128,10 @@ impl<'a> Parser<'a> {
         &mut self,
         room: u32,
         first: &Token<'_>,
-        second: Option<&Token<'_>>,
+        second: Option<Token<'_>>,
     ) -> Result<Selection, Stop>
-        ensures reads { Gives (λ x. x) result (left self.new) (behind_names room (selections room) (lexeme first.now) (option_map (λ token. lexeme token.now) second.entry) (left self.old)) }
-        ensures same { source self.new ≡ source self.old }
+        ensures reads { Gives (λ x. x) result (left self.new) (behind_names room (selections room) (lexeme first.now) (option_map lexeme second.entry) (left self.old)) }
+        ensures same { text_end self.new ≡ text_end self.old }
     {
         let arguments = self.arguments(false, room)?;
         let directives = self.directives(false, room)?;
@@ -151,7 +151,7 @@ impl<'a> Parser<'a> {
     #[cycle(selection)]
     fn maybe_selections(&mut self, room: u32) -> Result<Listed<Selection>, Stop>
         ensures reads { Gives (λ x. x) result (left self.new) (listed (is_punctuator (codes "{")) (selections room) (left self.old)) }
-        ensures same { source self.new ≡ source self.old }
+        ensures same { text_end self.new ≡ text_end self.old }
     {
         if self.next_is(Terminal::Punctuator("{")) {
             self.selections(room)
@@ -164,20 +164,20 @@ impl<'a> Parser<'a> {
     fn alias_and_name(
         &self,
         first: &Token<'_>,
-        second: Option<&Token<'_>>,
+        second: Option<Token<'_>>,
     ) -> Result<(Option<Text>, Text), Stop>
-        ensures { MatchResult result (λ names. (names.0 ≡ alias_by (lexeme first.now) (option_map (λ token. lexeme token.now) second.entry)) × (names.1 ≡ name_by (lexeme first.now) (option_map (λ token. lexeme token.now) second.entry))) (λ why. why ≡ stop.NoMemory) }
+        ensures { MatchResult result (λ names. (names.0 ≡ alias_by (lexeme first.now) (option_map lexeme second.entry)) × (names.1 ≡ name_by (lexeme first.now) (option_map lexeme second.entry))) (λ why. why ≡ stop.NoMemory) }
     {
         match second {
-            Some(second) => Ok((Some(self.text(first)?), self.text(second)?)),
+            Some(second) => Ok((Some(self.text(first)?), self.text(&second)?)),
             None => Ok((None, self.text(first)?)),
         }
     }
 
     /// The name behind an alias and its colon, where a colon stands next.
-    fn aliased(&mut self) -> Result<Option<&'a Token<'a>>, Stop>
-        ensures reads { Gives (λ found. option_map (λ token. lexeme token.now) found) result (left self.new) (optional (is_punctuator (codes ":")) aliased (left self.old)) }
-        ensures same { source self.new ≡ source self.old }
+    fn aliased(&mut self) -> Result<Option<Token<'a>>, Stop>
+        ensures reads { Gives (λ found. option_map lexeme found) result (left self.new) (optional (is_punctuator (codes ":")) aliased (left self.old)) }
+        ensures same { text_end self.new ≡ text_end self.old }
     {
         if !self.next_is(Terminal::Punctuator(":")) {
             return Ok(None);
@@ -190,12 +190,12 @@ impl<'a> Parser<'a> {
     #[tactic(auto, unfolding(crate::specs::inner::Reading::spread))]
     fn spread(&mut self, room: u32) -> Result<Selection, Stop>
         ensures reads { Gives (λ x. x) result (left self.new) (spread room (left self.old)) }
-        ensures same { source self.new ≡ source self.old }
+        ensures same { text_end self.new ≡ text_end self.old }
     {
         let word = self.take(Terminal::FragmentName)?;
         let directives = self.directives(false, room)?;
         Ok(Selection::Spread(SpreadNode {
-            name: self.text(word)?,
+            name: self.text(&word)?,
             directives,
             spot: word.spot,
         }))
@@ -206,7 +206,7 @@ impl<'a> Parser<'a> {
     #[tactic(auto, unfolding(crate::specs::inner::Reading::inline_fragment))]
     fn inline_fragment(&mut self, room: u32, dots: Spot) -> Result<Selection, Stop>
         ensures reads { Gives (λ x. x) result (left self.new) (inline_fragment room (selections room) dots (left self.old)) }
-        ensures same { source self.new ≡ source self.old }
+        ensures same { text_end self.new ≡ text_end self.old }
     {
         let condition = self.maybe_type_condition()?;
         let directives = self.directives(false, room)?;
@@ -220,9 +220,9 @@ impl<'a> Parser<'a> {
     }
 
     /// `TypeCondition?`
-    fn maybe_type_condition(&mut self) -> Result<Option<&'a Token<'a>>, Stop>
-        ensures reads { Gives (λ found. option_map (λ token. lexeme token.now) found) result (left self.new) (optional is_on type_condition (left self.old)) }
-        ensures same { source self.new ≡ source self.old }
+    fn maybe_type_condition(&mut self) -> Result<Option<Token<'a>>, Stop>
+        ensures reads { Gives (λ found. option_map lexeme found) result (left self.new) (optional is_on type_condition (left self.old)) }
+        ensures same { text_end self.new ≡ text_end self.old }
     {
         if !self.next_is(Terminal::Word("on")) {
             return Ok(None);
@@ -231,9 +231,9 @@ impl<'a> Parser<'a> {
     }
 
     /// `TypeCondition`
-    pub(crate) fn type_condition(&mut self) -> Result<&'a Token<'a>, Stop>
-        ensures reads { Gives (λ token. lexeme token.now) result (left self.new) (type_condition (left self.old)) }
-        ensures same { source self.new ≡ source self.old }
+    pub(crate) fn type_condition(&mut self) -> Result<Token<'a>, Stop>
+        ensures reads { Gives lexeme result (left self.new) (type_condition (left self.old)) }
+        ensures same { text_end self.new ≡ text_end self.old }
     {
         self.take(Terminal::Word("on"))?;
         self.take(Terminal::Name)
@@ -241,8 +241,8 @@ impl<'a> Parser<'a> {
 }
 
 /// Where an inline fragment stands: at its type, and at its `...` where it has none.
-fn inline_spot(dots: Spot, condition: Option<&Token<'_>>) -> Spot
-    ensures { result ≡ inline_spot dots (option_map (λ token. lexeme token.now) condition.entry) }
+fn inline_spot(dots: Spot, condition: Option<Token<'_>>) -> Spot
+    ensures { result ≡ inline_spot dots (option_map lexeme condition.entry) }
 {
     match condition {
         Some(word) => word.spot,

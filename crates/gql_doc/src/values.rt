@@ -5,7 +5,7 @@
 
 ghost use Rattle.std.specs.Prelude.{◌≡◌, ◌∷◌, [], codes, List, IfOk};
 ghost use Rattle.gql_lex.specs.Tokens.{lexeme};
-ghost use Rattle.gql_doc.specs.inner.Left.{left, source};
+ghost use Rattle.gql_doc.specs.inner.Left.{left, text_end};
 ghost use Rattle.gql_doc.specs.Terminals.{is_punctuator, is_name, is_number, is_string};
 ghost use Rattle.gql_doc.specs.inner.Reading.{Gives, next_is, many, value, nested, argument, arguments, directive, directives, begins_value, variable, number, string, word, list_value, object_value};
 
@@ -20,7 +20,7 @@ impl Parser<'_> {
     #[cycle(value)]
     pub(crate) fn value(&mut self, constant: bool, room: u32) -> Result<Literal, Stop>
         ensures reads { Gives (λ x. x) result (left self.new) (value constant room (left self.old)) }
-        ensures same { source self.new ≡ source self.old }
+        ensures same { text_end self.new ≡ text_end self.old }
     {
         if self.next_is(Terminal::Punctuator("$")) {
             return self.variable(constant);
@@ -40,45 +40,45 @@ impl Parser<'_> {
     /// `"$" Name`. A constant value has none.
     fn variable(&mut self, constant: bool) -> Result<Literal, Stop>
         ensures reads { Gives (λ x. x) result (left self.new) (variable constant (left self.old)) }
-        ensures same { source self.new ≡ source self.old }
+        ensures same { text_end self.new ≡ text_end self.old }
     {
         if constant {
             return Err(Stop::Unexpected);
         }
         let dollar = self.take(Terminal::Punctuator("$"))?;
         let word = self.take(Terminal::Name)?;
-        Ok(Literal::Variable(self.text(word)?, dollar.spot))
+        Ok(Literal::Variable(self.text(&word)?, dollar.spot))
     }
 
     /// `IntValue`
     fn number(&mut self) -> Result<Literal, Stop>
         ensures reads { Gives (λ x. x) result (left self.new) (number (left self.old)) }
-        ensures same { source self.new ≡ source self.old }
+        ensures same { text_end self.new ≡ text_end self.old }
     {
         let number = self.take(Terminal::Number)?;
-        Ok(Literal::Int(self.text(number)?, number.spot))
+        Ok(Literal::Int(self.text(&number)?, number.spot))
     }
 
     /// `StringValue`
     fn string(&mut self) -> Result<Literal, Stop>
         ensures reads { Gives (λ x. x) result (left self.new) (string (left self.old)) }
-        ensures same { source self.new ≡ source self.old }
+        ensures same { text_end self.new ≡ text_end self.old }
     {
         let string = self.take(Terminal::StringValue)?;
-        Ok(Literal::Text(string_value(self.alloc, string)?, string.spot))
+        Ok(Literal::Text(string_value(self.alloc, &string)?, string.spot))
     }
 
     /// `BooleanValue`, `NullValue` or `EnumValue`
     fn word(&mut self) -> Result<Literal, Stop>
         ensures reads { Gives (λ x. x) result (left self.new) (word (left self.old)) }
-        ensures same { source self.new ≡ source self.old }
+        ensures same { text_end self.new ≡ text_end self.old }
     {
         let word = self.take(Terminal::Name)?;
         match word.text {
             "true" => Ok(Literal::Bool(true, word.spot)),
             "false" => Ok(Literal::Bool(false, word.spot)),
             "null" => Ok(Literal::Null(word.spot)),
-            _ => Ok(Literal::Enum(self.text(word)?, word.spot)),
+            _ => Ok(Literal::Enum(self.text(&word)?, word.spot)),
         }
     }
 
@@ -87,7 +87,7 @@ impl Parser<'_> {
     #[tactic(auto, using(crate::proofs::Rooms::nested_more, crate::proofs::Rooms::nested_none))]
     fn nested(&mut self, constant: bool, room: u32) -> Result<Literal, Stop>
         ensures reads { Gives (λ x. x) result (left self.new) (nested constant room (left self.old)) }
-        ensures same { source self.new ≡ source self.old }
+        ensures same { text_end self.new ≡ text_end self.old }
     {
         let is_list = self.next_is(Terminal::Punctuator("["));
         if room == 0 {
@@ -104,7 +104,7 @@ impl Parser<'_> {
     #[cycle(value)]
     fn list_value(&mut self, constant: bool, room: u32) -> Result<Literal, Stop>
         ensures reads { Gives (λ x. x) result (left self.new) (list_value (value constant room) (left self.old)) }
-        ensures same { source self.new ≡ source self.old }
+        ensures same { text_end self.new ≡ text_end self.old }
     {
         let opening = self.take(Terminal::Punctuator("["))?;
         let items = self.values(constant, room)?;
@@ -116,7 +116,7 @@ impl Parser<'_> {
     #[cycle(value)]
     fn values(&mut self, constant: bool, room: u32) -> Result<Listed<Literal>, Stop>
         ensures reads { Gives (λ x. x) result (left self.new) (many begins_value (value constant room) (left self.old)) }
-        ensures same { source self.new ≡ source self.old }
+        ensures same { text_end self.new ≡ text_end self.old }
     {
         let mut values = Listed::new(self.alloc);
         while self.next_is_value() {
@@ -141,7 +141,7 @@ impl Parser<'_> {
     #[cycle(value)]
     fn object_value(&mut self, constant: bool, room: u32) -> Result<Literal, Stop>
         ensures reads { Gives (λ x. x) result (left self.new) (object_value (value constant room) (left self.old)) }
-        ensures same { source self.new ≡ source self.old }
+        ensures same { text_end self.new ≡ text_end self.old }
     {
         let opening = self.take(Terminal::Punctuator("{"))?;
         let members = self.members(constant, room)?;
@@ -153,7 +153,7 @@ impl Parser<'_> {
     #[cycle(value)]
     fn members(&mut self, constant: bool, room: u32) -> Result<Listed<Argument>, Stop>
         ensures reads { Gives (λ x. x) result (left self.new) (many is_name (argument (value constant room)) (left self.old)) }
-        ensures same { source self.new ≡ source self.old }
+        ensures same { text_end self.new ≡ text_end self.old }
     {
         let mut members = Listed::new(self.alloc);
         while self.next_is(Terminal::Name) {
@@ -167,11 +167,11 @@ impl Parser<'_> {
     #[tactic(auto, unfolding(crate::specs::inner::Reading::argument))]
     fn argument(&mut self, constant: bool, room: u32) -> Result<Argument, Stop>
         ensures reads { Gives (λ x. x) result (left self.new) (argument (value constant room) (left self.old)) }
-        ensures same { source self.new ≡ source self.old }
+        ensures same { text_end self.new ≡ text_end self.old }
     {
         let word = self.take(Terminal::Name)?;
         self.take(Terminal::Punctuator(":"))?;
-        let name = self.text(word)?;
+        let name = self.text(&word)?;
         let value = self.value(constant, room)?;
         Ok(Argument {
             name,
@@ -184,7 +184,7 @@ impl Parser<'_> {
     #[tactic(auto, unfolding(crate::specs::inner::Reading::arguments))]
     pub(crate) fn arguments(&mut self, constant: bool, room: u32) -> Result<Listed<Argument>, Stop>
         ensures reads { Gives (λ x. x) result (left self.new) (arguments constant room (left self.old)) }
-        ensures same { source self.new ≡ source self.old }
+        ensures same { text_end self.new ≡ text_end self.old }
     {
         if !self.next_is(Terminal::Punctuator("(")) {
             return Ok(Listed::new(self.alloc));
@@ -200,13 +200,13 @@ impl Parser<'_> {
     #[tactic(auto, unfolding(crate::specs::inner::Reading::directive))]
     fn directive(&mut self, constant: bool, room: u32) -> Result<DirectiveUse, Stop>
         ensures reads { Gives (λ x. x) result (left self.new) (directive constant room (left self.old)) }
-        ensures same { source self.new ≡ source self.old }
+        ensures same { text_end self.new ≡ text_end self.old }
     {
         let at = self.take(Terminal::Punctuator("@"))?;
         let word = self.take(Terminal::Name)?;
         let arguments = self.arguments(constant, room)?;
         Ok(DirectiveUse {
-            name: self.text(word)?,
+            name: self.text(&word)?,
             arguments,
             spot: at.spot,
         })
@@ -220,7 +220,7 @@ impl Parser<'_> {
         room: u32,
     ) -> Result<Listed<DirectiveUse>, Stop>
         ensures reads { Gives (λ x. x) result (left self.new) (directives constant room (left self.old)) }
-        ensures same { source self.new ≡ source self.old }
+        ensures same { text_end self.new ≡ text_end self.old }
     {
         let mut directives = Listed::new(self.alloc);
         while self.next_is(Terminal::Punctuator("@")) {

@@ -1,5 +1,5 @@
 use Rattle.std.proofs.Common.{◌≡◌, ◌+◌, ◌*◌, length}
-use Rattle.gql_doc.specs.inner.Left.{left, source}
+use Rattle.gql_doc.specs.inner.Left.{left, text_end}
 use Rattle.gql_doc.specs.inner.Reading.{many, begins_selection, any_selection, selections}
 use Rattle.gql_doc.proofs.Loops.{with_front}
 use Rattle.gql_doc.proofs.parser.Parser.+selection.Given as goal
@@ -34,7 +34,7 @@ decreases-some_selections l = 8 * l.room + 7
 abbrev pub invariant-some_selections-loop-selections : goal.invariant-some_selections-loop-selections
 invariant-some_selections-loop-selections l = record {
   reads : with_front l.selections (many begins_selection (any_selection l.room (selections l.room)) (left l.self)) ≡ many begins_selection (any_selection l.room (selections l.room)) (left l.fn.self);
-  same : source l.self ≡ source l.fn.self;
+  same : text_end l.self ≡ text_end l.fn.self;
 }
 
 abbrev pub decreases-some_selections-loop-selections : goal.decreases-some_selections-loop-selections

@@ -1,5 +1,5 @@
 use Rattle.std.proofs.Common.{◌≡◌, ◌+◌, ◌*◌, length}
-use Rattle.gql_doc.specs.inner.Left.{left, source}
+use Rattle.gql_doc.specs.inner.Left.{left, text_end}
 use Rattle.gql_doc.specs.Terminals.{is_name}
 use Rattle.gql_doc.specs.inner.Reading.{many, begins_value, value, argument}
 use Rattle.gql_doc.proofs.Loops.{with_front}
@@ -29,7 +29,7 @@ decreases-argument l = 6 * l.room + 2
 abbrev pub invariant-values-loop-values : goal.invariant-values-loop-values
 invariant-values-loop-values l = record {
   reads : with_front l.values (many begins_value (value l.constant l.room) (left l.self)) ≡ many begins_value (value l.constant l.room) (left l.fn.self);
-  same : source l.self ≡ source l.fn.self;
+  same : text_end l.self ≡ text_end l.fn.self;
 }
 
 abbrev pub decreases-values-loop-values : goal.decreases-values-loop-values
@@ -38,7 +38,7 @@ decreases-values-loop-values l = length (left l.self)
 abbrev pub invariant-members-loop-members : goal.invariant-members-loop-members
 invariant-members-loop-members l = record {
   reads : with_front l.members (many is_name (argument (value l.constant l.room)) (left l.self)) ≡ many is_name (argument (value l.constant l.room)) (left l.fn.self);
-  same : source l.self ≡ source l.fn.self;
+  same : text_end l.self ≡ text_end l.fn.self;
 }
 
 abbrev pub decreases-members-loop-members : goal.decreases-members-loop-members
