@@ -57,7 +57,9 @@ pub(crate) struct Parser<'a> {
 }
 
 impl<'a> Parser<'a> {
-    ghost use Rattle.gql_doc.specs.inner.Left.{left, text_end, coming, end_of};
+    ghost use Rattle.gql_lex.specs.Tokens as lexer;
+    ghost use Rattle.gql_lex.specs.Tokens.{passed};
+    ghost use Rattle.gql_doc.specs.inner.Left.{left, text_end, text_of, coming_to, coming, end_of};
     ghost use Rattle.gql_doc.specs.inner.Outcomes.{next_spot};
     ghost use Rattle.gql_doc.specs.inner.Reading.{Gives, next_is, is_any, take};
     ghost use Rattle.gql_doc.specs.declared.parser.Stop.TheVariants as stop;
@@ -69,9 +71,21 @@ impl<'a> Parser<'a> {
         ensures left { left result ≡ (coming [] text.now).tokens }
         ensures end { text_end result ≡ end_of text.now }
     {
-        let mut lexer = Lexer::new(text);
-        let next = lexer.next();
-        Parser { alloc, lexer, next }
+        let mut parser = Parser {
+            alloc,
+            lexer: Lexer::new(text),
+            next: Ok(None),
+        };
+        parser.advance();
+        parser
+    }
+
+    /// Takes what the lexer gives next for the next token.
+    fn advance(&mut self)
+        ensures coming { coming_to self.new ≡ coming (passed self.old.lexer) (lexer.left self.old.lexer) }
+        ensures text { text_of self.new.lexer ≡ text_of self.old.lexer }
+    {
+        self.next = self.lexer.next();
     }
 
     /// Whether a token is left.
@@ -105,7 +119,7 @@ impl<'a> Parser<'a> {
         if !terminal.matches(&token) {
             return Err(Stop::Unexpected);
         }
-        self.next = self.lexer.next();
+        self.advance();
         Ok(token)
     }
 

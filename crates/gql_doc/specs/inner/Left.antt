@@ -4,6 +4,7 @@ use Rattle.gql_tree.specs.declared.delivery.Spot.{Spot}
 use Rattle.gql_lex.specs.Places.{spot_at}
 use Rattle.gql_lex.specs.Tokens.{Lexeme, End, Whole, Refused, next_of, done_with, told, passed}
 use Rattle.gql_lex.specs.Tokens as lexer
+use Rattle.gql_lex.specs.declared.lexer.Lexer.{Lexer}
 use Rattle.gql_lex.specs.declared.refusal.LexRefusal.{LexRefusal}
 use Rattle.gql_doc.specs.declared.parser.Parser.{Parser}
 
@@ -41,6 +42,10 @@ end_by text (Refused refusal) = Err refusal
 abbrev pub end_of : List ℕ → Result Spot LexRefusal
 end_of text = end_by text (coming [] text).end
 
+-- the text of which a lexer gives tokens
+abbrev pub text_of : Lexer → List ℕ
+text_of it = passed it ++ lexer.left it
+
 -- the end to which the parser comes
 unfoldable pub text_end : Parser → Result Spot LexRefusal
-text_end parser = end_by (passed parser.lexer ++ lexer.left parser.lexer) (coming_to parser).end
+text_end parser = end_by (text_of parser.lexer) (coming_to parser).end
