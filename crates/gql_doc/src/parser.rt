@@ -91,6 +91,7 @@ impl<'a> Parser<'a> {
     }
 
     /// Whether the next token is this terminal.
+    #[inline(always)]
     pub(crate) fn next_is(&self, terminal: Terminal) -> bool
         ensures { result ≡ next_is (matches terminal) (left self.now) }
     {
@@ -101,6 +102,7 @@ impl<'a> Parser<'a> {
     }
 
     /// Takes the next token, which is to be this terminal.
+    #[inline(always)]
     pub(crate) fn take(&mut self, terminal: Terminal) -> Result<&'a Token<'a>, Stop>
         ensures { Gives (λ token. lexeme token.now) result (left self.new) (take (matches terminal) (left self.old)) }
     {

@@ -28,7 +28,8 @@ pub(crate) enum Terminal {
 }
 
 impl Terminal {
-    /// Whether a token is this terminal.
+    /// Whether a token is this terminal. Most callers name the terminal, so little is left of this where it is inlined.
+    #[inline(always)]
     pub(crate) fn matches(self, token: &Token<'_>) -> bool
         ensures { result ≡ matches self (lexeme token.now) }
     {
@@ -45,6 +46,7 @@ impl Terminal {
     }
 }
 
+#[inline(always)]
 fn is_punctuator(token: &Token<'_>, text: &str) -> bool
     ensures { result ≡ is_punctuator text.now (lexeme token.now) }
 {
@@ -52,6 +54,7 @@ fn is_punctuator(token: &Token<'_>, text: &str) -> bool
 }
 
 /// Whether two texts are the same. Texts of one byte, as most punctuators are, are compared at once.
+#[inline(always)]
 fn is_same(left: &str, right: &str) -> bool
     ensures { result ≡ bytes_eq left.now right.now }
 {
