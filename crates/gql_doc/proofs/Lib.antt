@@ -2,7 +2,7 @@ pub mod Quoted
 pub mod Blocks
 pub mod Rooms
 pub mod Loops
-pub mod Lone
+pub mod PlainFields
 pub mod Sets
 pub mod Predictive
 pub mod Productions

@@ -23,7 +23,7 @@ pub(crate) enum Terminal {
     FragmentName,
     /// `query`, `mutation` or `subscription`.
     OperationType,
-    /// What goes on with a field behind its name: `:`, `(`, `@` or `{`.
+    /// What begins all that may stand between a field's name and its selection set: `:`, `(` or `@`.
     FieldPart,
 }
 
@@ -64,6 +64,7 @@ fn is_same(left: &str, right: &str) -> bool
     }
 }
 
+#[inline(always)]
 fn is_name(token: &Token<'_>) -> bool
     ensures { result ≡ is_name (lexeme token.now) }
 {
@@ -101,9 +102,10 @@ fn is_operation_type(token: &Token<'_>) -> bool
         && (token.text == "query" || token.text == "mutation" || token.text == "subscription")
 }
 
+#[inline(always)]
 fn is_field_part(token: &Token<'_>) -> bool
     ensures { result ≡ is_field_part (lexeme token.now) }
 {
     matches!(token.kind, TokenKind::Punctuator)
-        && matches!(token.text.as_bytes(), [b':' | b'(' | b'@' | b'{'])
+        && matches!(token.text.as_bytes(), [b':' | b'(' | b'@'])
 }
