@@ -3,7 +3,7 @@ pub mod Blocks
 pub mod Rooms
 pub mod Loops
 pub mod Shrinking
-pub mod Lone
+pub mod PlainFields
 pub mod Sets
 pub mod Predictive
 pub mod Productions

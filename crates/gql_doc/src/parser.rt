@@ -97,6 +97,7 @@ impl<'a> Parser<'a> {
     }
 
     /// Whether the next token is this terminal.
+    #[inline(always)]
     #[tactic(auto, unfolding(crate::specs::inner::Left::left))]
     pub(crate) fn next_is(&self, terminal: Terminal) -> bool
         ensures { result ≡ next_is (matches terminal) (left self.now) }
@@ -108,6 +109,7 @@ impl<'a> Parser<'a> {
     }
 
     /// Takes the next token, which is to be this terminal.
+    #[inline(always)]
     #[tactic(auto, unfolding(crate::specs::inner::Left::left, crate::specs::inner::Left::text_end))]
     pub(crate) fn take(&mut self, terminal: Terminal) -> Result<Token<'a>, Stop>
         ensures reads { Gives lexeme result (left self.new) (take (matches terminal) (left self.old)) }

@@ -6,7 +6,7 @@ ghost use Rattle.gql_doc.specs.inner.Left.{left, text_end};
 ghost use Rattle.gql_doc.specs.Grammar.{alias_by, name_by, inline_spot};
 ghost use Rattle.gql_doc.specs.Terminals.{is_punctuator, is_word, is_name};
 ghost use Rattle.gql_doc.specs.declared.parser.Stop.TheVariants as stop;
-ghost use Rattle.gql_doc.specs.inner.Reading.{Gives, next_is, many, optional, listed, aliased, type_condition, field, lone_field, behind_name, behind_names, spread, inline_fragment, any_selection, selection_set, selections, begins_selection, is_on};
+ghost use Rattle.gql_doc.specs.inner.Reading.{Gives, next_is, many, optional, listed, aliased, type_condition, field, plain_field, behind_name, behind_names, spread, inline_fragment, any_selection, selection_set, selections, begins_selection, is_on};
 
 use crate::parser::{Parser, Stop};
 use crate::terminal::Terminal;
@@ -90,22 +90,26 @@ impl<'a> Parser<'a> {
     {
         let first = self.take(Terminal::Name)?;
         if self.next_is(Terminal::FieldPart) {
-            self.behind_name(room, &first)
-        } else {
-            self.lone_field(&first)
+            return self.behind_name(room, &first);
         }
+        let selections = self.maybe_selections(room)?;
+        self.plain_field(&first, selections)
     }
 
-    /// `Field` that is only its name
-    fn lone_field(&self, name: &Token<'_>) -> Result<Selection, Stop>
-        ensures { MatchResult result (λ field. field ≡ lone_field (lexeme name.now)) (λ why. why ≡ stop.NoMemory) }
+    /// `Field` without an alias, arguments and directives
+    fn plain_field(
+        &self,
+        name: &Token<'_>,
+        selections: Listed<Selection>,
+    ) -> Result<Selection, Stop>
+        ensures { MatchResult result (λ field. field ≡ plain_field (lexeme name.now) selections) (λ why. why ≡ stop.NoMemory) }
     {
         Ok(Selection::Field(FieldNode {
             alias: None,
             name: self.text(name)?,
             arguments: Listed::new(self.alloc),
             directives: Listed::new(self.alloc),
-            selections: Listed::new(self.alloc),
+            selections,
             spot: name.spot,
         }))
     }
