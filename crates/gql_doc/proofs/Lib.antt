@@ -2,7 +2,8 @@ pub mod Quoted
 pub mod Blocks
 pub mod Rooms
 pub mod Loops
-pub mod Lone
+pub mod Shrinking
+pub mod PlainFields
 pub mod Sets
 pub mod Predictive
 pub mod Productions
@@ -14,7 +15,7 @@ pub mod StringTexts
 pub mod Unescaped
 pub mod Meant
 pub mod Written
-pub mod Lexed
+pub mod Coming
 pub mod Parsed
 pub mod WrittenStrings
 pub mod Writing

@@ -1,8 +1,10 @@
 -- From what the parser reads to what a text is.
-use Rattle.std.proofs.Common.{codes, ◌≡◌, ◌⊎◌, inl, inr, ℕ, suc, true, false, List, [], ◌∷◌, ◌++◌, map, Some, None, IsSome, Result, Ok, Err, refl, sym, ap, subst, ◌∙◌, append_assoc}
+use Rattle.std.proofs.Common.{codes, ◌≡◌, ◌⊎◌, inl, inr, ℕ, suc, true, false, List, [], ◌∷◌, ◌++◌, Some, None, IsSome, Result, Ok, Err, refl, sym, ap, subst, ◌∙◌, append_assoc}
 use Rattle.std.specs.Option.{option_and_then}
 use Rattle.std.proofs.lemmas.List.{append-nil}
-use Rattle.gql_lex.specs.Tokens.{Lexeme, lexeme, Lexes, Whole}
+use Rattle.gql_tree.specs.declared.delivery.Spot.{Spot}
+use Rattle.gql_lex.specs.declared.refusal.LexRefusal.{LexRefusal}
+use Rattle.gql_lex.specs.Tokens.{Lexeme, Lexes, End, Whole, Refused}
 use Rattle.gql_lex.proofs.Determined.{Lexes-determined}
 use Rattle.gql_doc.specs.Grammar.{IsDocument, document}
 use Rattle.gql_doc.specs.Terminals.{is_opening}
@@ -10,15 +12,13 @@ use Rattle.gql_doc.specs.Nesting.{room_behind, room_after, IsWithin, limit}
 use Rattle.gql_doc.specs.Answer.{Begins, IsFine, Comes, IsUnexpected, IsTooDeep, Is, Answers}
 use Rattle.gql_doc.specs.inner.Reading.{Reading, next_is}
 use Rattle.gql_doc.specs.inner.Reading as reading
-use Rattle.gql_doc.specs.inner.TextEnds.{end_of, IsPlaced}
+use Rattle.gql_doc.specs.inner.Left.{coming, end_by, end_of}
 use Rattle.gql_doc.specs.inner.Outcomes.{outcome, found, next_spot, refusal_of}
 use Rattle.gql_doc.specs.declared.parser.Stop.{Stop}
 use Rattle.gql_doc.specs.declared.parser.Stop.TheVariants as stop
-use Rattle.gql_lex.specs.declared.token.Token.{Token}
 use Rattle.gql_doc.specs.declared.refusal.ParseRefusal.{ParseRefusal}
 use Rattle.gql_doc.specs.declared.refusal.ParseRefusal.TheVariants as refusal
-use Rattle.gql_doc.specs.declared.tokens.TextEnd.{TextEnd}
-use Rattle.gql_doc.specs.declared.tokens.TextEnd.TheVariants as end
+use Rattle.gql_doc.proofs.Coming.{coming-lexes}
 use Rattle.gql_doc.proofs.Sets.{union, this, names, all_tokens}
 use Rattle.gql_doc.proofs.Predictive.{Begun, Stopped, IsDeep, Reads, Predictive, room_both, same_why}
 use Rattle.gql_doc.proofs.Productions.{document-predictive, document_whole}
@@ -98,88 +98,96 @@ no_document tokens h it is = by ((parses is.0).reads tokens [] it is.1 refl)
 
 -- ---- the answer
 
-answer_found : (text : List ℕ) (tokens : List Lexeme) (text_end : TextEnd) (it : Document) → Lexes [] text tokens (end_of text_end) → IsDocument tokens it × IsWithin tokens → Answers text (found it text_end)
-answer_found text tokens (end.Whole spot) it lexes is = record { tokens = tokens; all = lexes; document = is.0; within = is.1 }
-answer_found text tokens (end.Refused fault) it lexes is = (tokens, lexes, fine_of tokens it is)
+answer_found : (text : List ℕ) (tokens : List Lexeme) (end : End) (it : Document) → Lexes [] text tokens end → IsDocument tokens it × IsWithin tokens → Answers text (found it (end_by text end))
+answer_found text tokens Whole it lexes is = record { tokens = tokens; all = lexes; document = is.0; within = is.1 }
+answer_found text tokens (Refused fault) it lexes is = (tokens, lexes, fine_of tokens it is)
 
 -- the next token is in the way
-comes_of : (text : List ℕ) (tokens done more : List Lexeme) (token : Lexeme) (text_end : TextEnd) → Lexes [] text tokens (end_of text_end) → tokens ≡ done ++ token ∷ more → IsFine done → Comes text done token
-comes_of text tokens done more token text_end lexes whole fine = record { more = more; end = end_of text_end; tokens = subst (λ t. Lexes [] text t (end_of text_end)) whole lexes; fine = fine }
+comes_of : (text : List ℕ) (tokens done more : List Lexeme) (token : Lexeme) (end : End) → Lexes [] text tokens end → tokens ≡ done ++ token ∷ more → IsFine done → Comes text done token
+comes_of text tokens done more token end lexes whole fine = record { more = more; end = end; tokens = subst (λ t. Lexes [] text t end) whole lexes; fine = fine }
 
-unexpected_token : (text : List ℕ) (tokens more : List Lexeme) (token : Lexeme) (text_end : TextEnd) → Lexes [] text tokens (end_of text_end) → reads_document tokens ≡ Err (stop.Unexpected, token ∷ more) → IsUnexpected text token.spot
-unexpected_token text tokens more token text_end lexes h =
+unexpected_token : (text : List ℕ) (tokens more : List Lexeme) (token : Lexeme) (end : End) → Lexes [] text tokens end → reads_document tokens ≡ Err (stop.Unexpected, token ∷ more) → IsUnexpected text token.spot
+unexpected_token text tokens more token end lexes h =
     let s = (parses 0).stopped tokens (token ∷ more) stop.Unexpected h in
     record {
       done = s.done;
       next = token;
-      comes = comes_of text tokens s.done more token text_end lexes s.whole (fine_at tokens (token ∷ more) s);
+      comes = comes_of text tokens s.done more token end lexes s.whole (fine_at tokens (token ∷ more) s);
       no_document = no_more s.done more token (ap (reading.document limit) (sym s.whole) ∙ h);
       place = refl;
     }
 
-deep_token : (text : List ℕ) (tokens more : List Lexeme) (token : Lexeme) (text_end : TextEnd) → Lexes [] text tokens (end_of text_end) → reads_document tokens ≡ Err (stop.TooDeep, token ∷ more) → IsTooDeep text token.spot
-deep_token text tokens more token text_end lexes h =
+deep_token : (text : List ℕ) (tokens more : List Lexeme) (token : Lexeme) (end : End) → Lexes [] text tokens end → reads_document tokens ≡ Err (stop.TooDeep, token ∷ more) → IsTooDeep text token.spot
+deep_token text tokens more token end lexes h =
     let s = (parses 0).stopped tokens (token ∷ more) stop.TooDeep h in
     let d = s.cause.1 in
     let same : token ≡ d.next = cc d.is in
     record {
       done = s.done;
       next = token;
-      comes = comes_of text tokens s.done more token text_end lexes s.whole (record { begins = begins_of s.done s.begun; within = within_some s.done 0 s.cause.0 });
+      comes = comes_of text tokens s.done more token end lexes s.whole (record { begins = begins_of s.done s.begun; within = within_some s.done 0 s.cause.0 });
       begins = subst (λ t. Begins (s.done ++ t ∷ [])) (sym same) (begins_of (s.done ++ d.next ∷ []) d.begun);
       beyond = λ within. let no = subst IsSome (shut_room s.done [] token s.cause.0 (ap is_opening same ∙ d.opens)) within in absurd cc;
       place = refl;
     }
 
 -- the tokens end inside a document
-ended : (text : List ℕ) (tokens : List Lexeme) (text_end : TextEnd) → Lexes [] text tokens (end_of text_end) → IsPlaced text text_end → reads_document tokens ≡ Err (stop.Unexpected, []) → Answers text (outcome (Err (stop.Unexpected, [])) text_end)
-ended text tokens (end.Whole spot) lexes placed h =
+ended : (text : List ℕ) (tokens : List Lexeme) (end : End) → Lexes [] text tokens end → reads_document tokens ≡ Err (stop.Unexpected, []) → Answers text (outcome (Err (stop.Unexpected, [])) (end_by text end))
+ended text tokens Whole lexes h =
     let s = (parses 0).stopped tokens [] stop.Unexpected h in
     let whole : tokens ≡ s.done = s.whole ∙ append-nil s.done in
-    inr (record { tokens = tokens; all = lexes; fine = subst IsFine (sym whole) (fine_at tokens [] s); no_document = no_document tokens h; place = placed })
-ended text tokens (end.Refused fault) lexes placed h =
+    inr (record { tokens = tokens; all = lexes; fine = subst IsFine (sym whole) (fine_at tokens [] s); no_document = no_document tokens h; place = refl })
+ended text tokens (Refused fault) lexes h =
     let s = (parses 0).stopped tokens [] stop.Unexpected h in
     let whole : tokens ≡ s.done = s.whole ∙ append-nil s.done in
     (tokens, lexes, subst IsFine (sym whole) (fine_at tokens [] s))
 
-answer_by : (text : List ℕ) (tokens : List Lexeme) (text_end : TextEnd) (x : Reading Document) → Lexes [] text tokens (end_of text_end) → IsPlaced text text_end → reads_document tokens ≡ x → Answers text (outcome x text_end)
-answer_by text tokens text_end (Ok (it, rest)) lexes placed h = answer_found text tokens text_end it lexes (is_of tokens rest it h)
-answer_by text tokens text_end (Err (stop.Unexpected, [])) lexes placed h = ended text tokens text_end lexes placed h
-answer_by text tokens text_end (Err (stop.Unexpected, token ∷ more)) lexes placed h = inl (unexpected_token text tokens more token text_end lexes h)
-answer_by text tokens text_end (Err (stop.TooDeep, [])) lexes placed h = let s = (parses 0).stopped tokens [] stop.TooDeep h in let no = s.cause.1.is in absurd cc
-answer_by text tokens text_end (Err (stop.TooDeep, token ∷ more)) lexes placed h = deep_token text tokens more token text_end lexes h
-answer_by text tokens text_end (Err (stop.NoMemory, rest)) lexes placed h = absurd ((parses 0).stopped tokens rest stop.NoMemory h).cause
+answer_by : (text : List ℕ) (tokens : List Lexeme) (end : End) (x : Reading Document) → Lexes [] text tokens end → reads_document tokens ≡ x → Answers text (outcome x (end_by text end))
+answer_by text tokens end (Ok (it, rest)) lexes h = answer_found text tokens end it lexes (is_of tokens rest it h)
+answer_by text tokens end (Err (stop.Unexpected, [])) lexes h = ended text tokens end lexes h
+answer_by text tokens end (Err (stop.Unexpected, token ∷ more)) lexes h = inl (unexpected_token text tokens more token end lexes h)
+answer_by text tokens end (Err (stop.TooDeep, [])) lexes h = let s = (parses 0).stopped tokens [] stop.TooDeep h in let no = s.cause.1.is in absurd cc
+answer_by text tokens end (Err (stop.TooDeep, token ∷ more)) lexes h = deep_token text tokens more token end lexes h
+answer_by text tokens end (Err (stop.NoMemory, rest)) lexes h = absurd ((parses 0).stopped tokens rest stop.NoMemory h).cause
 
 -- what is made of the tokens of a text is the answer
-pub outcome-answers : (text : List ℕ) (tokens : List Lexeme) (text_end : TextEnd) → Lexes [] text tokens (end_of text_end) → IsPlaced text text_end → Answers text (outcome (reading.document limit tokens) text_end)
-outcome-answers text tokens text_end lexes placed = answer_by text tokens text_end (reading.document limit tokens) lexes placed refl
+pub outcome-answers : (text : List ℕ) (tokens : List Lexeme) (end : End) → Lexes [] text tokens end → Answers text (outcome (reading.document limit tokens) (end_by text end))
+outcome-answers text tokens end lexes = answer_by text tokens end (reading.document limit tokens) lexes refl
 
-whole_end : (text_end : TextEnd) (it : Document) → end_of text_end ≡ Whole → found it text_end ≡ Ok it
-whole_end (end.Whole spot) it h = refl
-whole_end (end.Refused fault) it h = absurd cc
+whole_end : (text : List ℕ) (end : End) (it : Document) → end ≡ Whole → found it (end_by text end) ≡ Ok it
+whole_end text Whole it h = refl
+whole_end text (Refused fault) it h = absurd cc
 
 -- a text that is a document gives it
-pub outcome-is : (text : List ℕ) (tokens : List Lexeme) (text_end : TextEnd) (it : Document) → Lexes [] text tokens (end_of text_end) → Is text it → outcome (reading.document limit tokens) text_end ≡ Ok it
-outcome-is text tokens text_end it lexes is =
-    let same = Lexes-determined [] text tokens is.tokens (end_of text_end) Whole lexes is.all in
-    ap (λ x. outcome x text_end) (is_read tokens it (subst (λ t. IsDocument t it) (sym same.0) is.document) (subst IsWithin (sym same.0) is.within)) ∙ whole_end text_end it same.1
+pub outcome-is : (text : List ℕ) (tokens : List Lexeme) (end : End) (it : Document) → Lexes [] text tokens end → Is text it → outcome (reading.document limit tokens) (end_by text end) ≡ Ok it
+outcome-is text tokens end it lexes is =
+    let same = Lexes-determined [] text tokens is.tokens end Whole lexes is.all in
+    ap (λ x. outcome x (end_by text end)) (is_read tokens it (subst (λ t. IsDocument t it) (sym same.0) is.document) (subst IsWithin (sym same.0) is.within)) ∙ whole_end text end it same.1
 
 -- as `parse` has them
-pub Answers-either : (text : List ℕ) (items : List Token) (text_end : TextEnd) (slice : List Token) (result : Result Document ParseRefusal) → Lexes [] text (map lexeme items) (end_of text_end) → IsPlaced text text_end → slice ≡ items
-    → (result ≡ outcome (reading.document limit (map lexeme slice)) text_end) ⊎ (result ≡ Err refusal.NoMemory) → Answers text result
-Answers-either text items text_end slice result lexes placed same (inl e) =
-    subst (Answers text) (sym (e ∙ ap (λ ts. outcome (reading.document limit (map lexeme ts)) text_end) same)) (outcome-answers text (map lexeme items) text_end lexes placed)
-Answers-either text items text_end slice result lexes placed same (inr e) = subst (Answers text) (sym e) tt
+abbrev IsOutcome : List ℕ → Result Document ParseRefusal → Type 0
+IsOutcome text result = (result ≡ outcome (reading.document limit (coming [] text).tokens) (end_of text)) ⊎ (result ≡ Err refusal.NoMemory)
 
-pub is-either : (text : List ℕ) (items : List Token) (text_end : TextEnd) (slice : List Token) (result : Result Document ParseRefusal) (it : Document) → Lexes [] text (map lexeme items) (end_of text_end) → slice ≡ items
-    → (result ≡ outcome (reading.document limit (map lexeme slice)) text_end) ⊎ (result ≡ Err refusal.NoMemory) → Is text it → (result ≡ Ok it) ⊎ (result ≡ Err refusal.NoMemory)
-is-either text items text_end slice result it lexes same (inl e) is =
-    inl (e ∙ ap (λ ts. outcome (reading.document limit (map lexeme ts)) text_end) same ∙ outcome-is text (map lexeme items) text_end it lexes is)
-is-either text items text_end slice result it lexes same (inr e) is = inr e
+pub Answers-either : (text : List ℕ) (result : Result Document ParseRefusal) → IsOutcome text result → Answers text result
+Answers-either text result (inl e) = subst (Answers text) (sym e) (outcome-answers text (coming [] text).tokens (coming [] text).end (coming-lexes text))
+Answers-either text result (inr e) = subst (Answers text) (sym e) tt
+
+pub is-either : (text : List ℕ) (result : Result Document ParseRefusal) (it : Document) → IsOutcome text result → Is text it → (result ≡ Ok it) ⊎ (result ≡ Err refusal.NoMemory)
+is-either text result it (inl e) is = inl (e ∙ outcome-is text (coming [] text).tokens (coming [] text).end it (coming-lexes text) is)
+is-either text result it (inr e) is = inr e
 
 -- what is made of where the parser stopped
-pub Fails-outcome : (why : Stop) (left : List Lexeme) (x : Reading Document) (text_end : TextEnd) (told : ParseRefusal) → reading.Fails why left x → told ≡ refusal_of why (next_spot left) text_end
-    → (let r : Result Document ParseRefusal = Err told in (r ≡ outcome x text_end) ⊎ (r ≡ Err refusal.NoMemory))
-Fails-outcome stop.NoMemory left x text_end told fails is = inr (ap Err is)
-Fails-outcome stop.Unexpected left x text_end told fails is = inl (ap Err is ∙ sym (ap (λ y. outcome y text_end) fails))
-Fails-outcome stop.TooDeep left x text_end told fails is = inl (ap Err is ∙ sym (ap (λ y. outcome y text_end) fails))
+pub Fails-outcome : (why : Stop) (left : List Lexeme) (x : Reading Document) (end : Result Spot LexRefusal) (told : ParseRefusal) → reading.Fails why left x → told ≡ refusal_of why left end
+    → (let r : Result Document ParseRefusal = Err told in (r ≡ outcome x end) ⊎ (r ≡ Err refusal.NoMemory))
+Fails-outcome stop.NoMemory left x end told fails is = inr (ap Err is)
+Fails-outcome stop.Unexpected left x end told fails is = inl (ap Err is ∙ sym (ap (λ y. outcome y end) fails))
+Fails-outcome stop.TooDeep left x end told fails is = inl (ap Err is ∙ sym (ap (λ y. outcome y end) fails))
+
+-- what is made of a document
+pub reads-outcome : (left : List Lexeme) (it : Document) (x : Reading Document) (end : Result Spot LexRefusal) (told : Result Document ParseRefusal) → x ≡ Ok (it, left) → told ≡ found it end → told ≡ outcome x end
+reads-outcome left it x end told reads is = is ∙ sym (ap (λ y. outcome y end) reads)
+
+-- where no token begins, none is left
+pub none_next : (tokens : List Lexeme) → next_spot tokens ≡ None → tokens ≡ []
+none_next [] h = refl
+none_next (token ∷ tokens) h = absurd cc

@@ -270,7 +270,7 @@ list-predictive constant item =
     (closes-predictive (codes "]") refl bracket_closes) refl (value_fresh constant))
     (λ list. returns-predictive (literal.List list.1 list.0)) refl
 
-argument-predictive : {n : ℕ} {p q : Phrase Literal} {r : Reader Literal} (constant : Bool) → Predictive n n p q r (value_first constant) no_tokens false
+pub argument-predictive : {n : ℕ} {p q : Phrase Literal} {r : Reader Literal} (constant : Bool) → Predictive n n p q r (value_first constant) no_tokens false
     → Predictive n n (grammar.argument p) (grammar.argument q) (reading.argument r) names no_tokens false
 unfolding reading.argument
 argument-predictive true value =
@@ -385,7 +385,7 @@ nested-predictive constant (suc n) (suc k) = nested_from constant n k (value_fro
 nested-predictive constant (suc n) zero = other-predictive (nested_of constant (suc n)) never (λ tokens a h. h) (λ tokens a h. h) (λ tokens a h. absurd h)
     (nested_from constant n zero (value_from constant n zero (nested-predictive constant n zero)))
 
-value-predictive : (constant : Bool) (n k : ℕ) → Predictive n n (grammar.value constant (suc n)) (grammar.value constant k) (reading.value constant n) (value_first constant) no_tokens false
+pub value-predictive : (constant : Bool) (n k : ℕ) → Predictive n n (grammar.value constant (suc n)) (grammar.value constant k) (reading.value constant n) (value_first constant) no_tokens false
 value-predictive constant n k = value_from constant n k (nested-predictive constant n k)
 
 -- ---- arguments and directives
@@ -413,7 +413,7 @@ arguments-predictive constant n k = listed-predictive (codes "(")
     (punctuator-predictive (codes ")") refl refl) refl refl)
     (λ all. returns-predictive all.1) refl)
 
-directive-predictive : (constant : Bool) (n k : ℕ) → Predictive n n (grammar.directive constant (suc n)) (grammar.directive constant k) (reading.directive constant n) (this (codes "@")) (this (codes "(")) false
+pub directive-predictive : (constant : Bool) (n k : ℕ) → Predictive n n (grammar.directive constant (suc n)) (grammar.directive constant k) (reading.directive constant n) (this (codes "@")) (this (codes "(")) false
 unfolding reading.directive
 directive-predictive constant n k =
     bind-predictive (punctuator-predictive (codes "@") refl refl) (λ at. bind-predictive name-predictive (λ word. bind-predictive (arguments-predictive constant n k) (λ given.
@@ -497,7 +497,7 @@ default-predictive : (n k : ℕ) → Predictive n n (grammar.default_value (suc 
 unfolding reading.default_value
 default-predictive n k = bind-predictive (punctuator-predictive (codes "=") refl refl) (λ _. value-predictive true n k) refl
 
-variable_definition-predictive : (n k : ℕ) → Predictive n n (grammar.variable_definition (suc n)) (grammar.variable_definition k) (reading.variable_definition n) (this (codes "$")) (these (codes "@" ∷ codes "(" ∷ codes "=" ∷ codes "!" ∷ [])) false
+pub variable_definition-predictive : (n k : ℕ) → Predictive n n (grammar.variable_definition (suc n)) (grammar.variable_definition k) (reading.variable_definition n) (this (codes "$")) (these (codes "@" ∷ codes "(" ∷ codes "=" ∷ codes "!" ∷ [])) false
 unfolding reading.variable_definition reading.behind_colon
 variable_definition-predictive n k =
     bind-predictive (punctuator-predictive (codes "$") refl refl) (λ dollar. bind-predictive name-predictive (λ word. bind-predictive (punctuator-predictive (codes ":") refl refl) (λ _.
@@ -609,7 +609,7 @@ module _ (n k : ℕ) (p q : Phrase (List Selection)) (r : Reader (List Selection
   spread_name : (t : Lexeme) (ts : List Lexeme) (a : Selection) → grammar.spread k (t ∷ ts) a → is_fragment_name t ≡ true
   spread_name = first_bind is_fragment_name (token is_fragment_name) _ (one_token is_fragment_name) (no_token is_fragment_name)
 
-  selection-predictive : Predictive n n (grammar.any_selection (suc n) p) (grammar.any_selection k q) (reading.any_selection n r) (union names (this (codes "..."))) (these (codes "{" ∷ codes "@" ∷ codes "(" ∷ codes "(" ∷ codes ":" ∷ codes "@" ∷ codes "(" ∷ [])) false
+  pub selection-predictive : Predictive n n (grammar.any_selection (suc n) p) (grammar.any_selection k q) (reading.any_selection n r) (union names (this (codes "..."))) (these (codes "{" ∷ codes "@" ∷ codes "(" ∷ codes "(" ∷ codes ":" ∷ codes "@" ∷ codes "(" ∷ [])) false
   unfolding reading.any_selection
   selection-predictive = pick_first-predictive is_name is_name-has field-predictive
       (bind-predictive (punctuator-predictive (codes "...") refl refl) (λ dots.
@@ -715,7 +715,7 @@ selection_set-predictive (suc n) (suc k) = set_from n k (selection_set-predictiv
 selection_set-predictive (suc n) zero = other-predictive (grammar.selection_set (suc (suc n))) never (λ tokens a h. h) (λ tokens a h. h) (λ tokens a h. absurd h)
     (set_from n zero (selection_set-predictive n zero))
 
-selections-predictive : (n k : ℕ) → Predictive n n (grammar.selections (suc n)) (grammar.selections k) (reading.selections n) (this (codes "{")) no_tokens false
+pub selections-predictive : (n k : ℕ) → Predictive n n (grammar.selections (suc n)) (grammar.selections k) (reading.selections n) (this (codes "{")) no_tokens false
 selections-predictive n k = selections_from n k (selection_set-predictive n k)
 
 -- ---- definitions
@@ -770,7 +770,7 @@ fragment_no_type t h =
     (λ i. (is_name t && bytes_eq (word_text (codes "fragment") t h i) (codes "query")) || ((is_name t && bytes_eq (word_text (codes "fragment") t h i) (codes "mutation")) || (is_name t && bytes_eq (word_text (codes "fragment") t h i) (codes "subscription"))))
     ∙ both_false (is_name t)
 
-definition-predictive : (n k : ℕ) → Predictive n n (grammar.any_definition (suc n)) (grammar.any_definition k) (reading.any_definition n) (union (this (codes "{")) names) no_tokens false
+pub definition-predictive : (n k : ℕ) → Predictive n n (grammar.any_definition (suc n)) (grammar.any_definition k) (reading.any_definition n) (union (this (codes "{")) names) no_tokens false
 unfolding reading.any_definition
 definition-predictive n k = pick_first-predictive (is_punctuator (codes "{")) (is_punctuator-has (codes "{")) (short-predictive n k)
     (pick-predictive is_operation_type names (operation-predictive n k) (fragment-predictive n k) (operation_first k) (λ t ts a h. fragment_no_type t (fragment_first k t ts a h)) (λ t h. sym (is_name-has t) ∙ type_is_name t h)) refl

@@ -50,9 +50,9 @@ is_fragment_name token = is_name token && not (bytes_eq token.text (codes "on"))
 abbrev pub is_operation_type : Lexeme → Bool
 is_operation_type token = is_word (codes "query") token || (is_word (codes "mutation") token || is_word (codes "subscription") token)
 
--- what goes on with a field behind its name: `:`, `(`, `@` or `{`
+-- what stands between a field's name and its selection set: `:`, `(` or `@` begins it
 abbrev pub is_field_part : Lexeme → Bool
-is_field_part token = is_punctuator (codes ":") token || (is_punctuator (codes "(") token || (is_punctuator (codes "@") token || is_punctuator (codes "{") token))
+is_field_part token = is_punctuator (codes ":") token || (is_punctuator (codes "(") token || is_punctuator (codes "@") token)
 
 -- ---- braces and brackets
 

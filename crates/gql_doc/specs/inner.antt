@@ -2,6 +2,5 @@
 pub mod Matches
 pub mod Reading
 pub mod Left
-pub mod TextEnds
 pub mod Outcomes
 pub mod Writing

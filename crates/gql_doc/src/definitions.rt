@@ -2,7 +2,7 @@
 
 ghost use Rattle.std.specs.Prelude.{◌≡◌, option_map};
 ghost use Rattle.gql_lex.specs.Tokens.{lexeme};
-ghost use Rattle.gql_doc.specs.inner.Left.{left};
+ghost use Rattle.gql_doc.specs.inner.Left.{left, text_end};
 ghost use Rattle.gql_doc.specs.Grammar.{operation_kind};
 ghost use Rattle.gql_doc.specs.Terminals.{is_name};
 ghost use Rattle.gql_doc.specs.inner.Reading.{Gives, many, optional, name, short_operation, operation_definition, fragment_definition, any_definition, document, is_any};
@@ -17,22 +17,21 @@ impl<'a> Parser<'a> {
     /// `ExecutableDocument`
     #[tactic(auto, unfolding(crate::specs::inner::Reading::document))]
     pub(crate) fn document(&mut self, room: u32) -> Result<Document, Stop>
-        ensures { Gives (λ x. x) result (left self.new) (document room (left self.old)) }
+        ensures reads { Gives (λ x. x) result (left self.new) (document room (left self.old)) }
+        ensures same { text_end self.new ≡ text_end self.old }
     {
-        self.require(self.count() > 0)?;
+        self.require(self.has_next())?;
         let definitions = self.definitions(room)?;
         Ok(Document { definitions })
     }
 
     /// `ExecutableDefinition*`, to the end of the tokens
     fn definitions(&mut self, room: u32) -> Result<Listed<Definition>, Stop>
-        ensures { Gives (λ x. x) result (left self.new) (many is_any (any_definition room) (left self.old)) }
+        ensures reads { Gives (λ x. x) result (left self.new) (many is_any (any_definition room) (left self.old)) }
+        ensures same { text_end self.new ≡ text_end self.old }
     {
         let mut definitions = Listed::new(self.alloc);
-        for _ in 0..self.count() {
-            if self.count() == 0 {
-                return Ok(definitions);
-            }
+        while self.has_next() {
             definitions.push(self.definition(room)?)?;
         }
         Ok(definitions)
@@ -41,7 +40,8 @@ impl<'a> Parser<'a> {
     /// `ExecutableDefinition`
     #[tactic(auto, unfolding(crate::specs::inner::Reading::any_definition))]
     fn definition(&mut self, room: u32) -> Result<Definition, Stop>
-        ensures { Gives (λ x. x) result (left self.new) (any_definition room (left self.old)) }
+        ensures reads { Gives (λ x. x) result (left self.new) (any_definition room (left self.old)) }
+        ensures same { text_end self.new ≡ text_end self.old }
     {
         if self.next_is(Terminal::Punctuator("{")) {
             self.short_operation(room)
@@ -55,7 +55,8 @@ impl<'a> Parser<'a> {
     /// `OperationDefinition` that is its selection set alone
     #[tactic(auto, unfolding(crate::specs::inner::Reading::short_operation))]
     fn short_operation(&mut self, room: u32) -> Result<Definition, Stop>
-        ensures { Gives (λ x. x) result (left self.new) (short_operation room (left self.old)) }
+        ensures reads { Gives (λ x. x) result (left self.new) (short_operation room (left self.old)) }
+        ensures same { text_end self.new ≡ text_end self.old }
     {
         let (spot, selections) = self.selection_set(room)?;
         Ok(Definition::Operation(OperationDef {
@@ -71,7 +72,8 @@ impl<'a> Parser<'a> {
     /// `OperationDefinition` with its type
     #[tactic(auto, unfolding(crate::specs::inner::Reading::operation_definition))]
     fn operation(&mut self, room: u32) -> Result<Definition, Stop>
-        ensures { Gives (λ x. x) result (left self.new) (operation_definition room (left self.old)) }
+        ensures reads { Gives (λ x. x) result (left self.new) (operation_definition room (left self.old)) }
+        ensures same { text_end self.new ≡ text_end self.old }
     {
         let word = self.take(Terminal::OperationType)?;
         let name = self.maybe_name()?;
@@ -79,7 +81,7 @@ impl<'a> Parser<'a> {
         let directives = self.directives(false, room)?;
         let selections = self.selections(room)?;
         Ok(Definition::Operation(OperationDef {
-            kind: kind_of(word),
+            kind: kind_of(&word),
             name: self.text_of(name)?,
             variables,
             directives,
@@ -89,8 +91,9 @@ impl<'a> Parser<'a> {
     }
 
     /// `Name?`
-    fn maybe_name(&mut self) -> Result<Option<&'a Token<'a>>, Stop>
-        ensures { Gives (λ found. option_map (λ token. lexeme token.now) found) result (left self.new) (optional is_name name (left self.old)) }
+    fn maybe_name(&mut self) -> Result<Option<Token<'a>>, Stop>
+        ensures reads { Gives (λ found. option_map lexeme found) result (left self.new) (optional is_name name (left self.old)) }
+        ensures same { text_end self.new ≡ text_end self.old }
     {
         if !self.next_is(Terminal::Name) {
             return Ok(None);
@@ -101,7 +104,8 @@ impl<'a> Parser<'a> {
     /// `FragmentDefinition`
     #[tactic(auto, unfolding(crate::specs::inner::Reading::fragment_definition))]
     fn fragment_definition(&mut self, room: u32) -> Result<Definition, Stop>
-        ensures { Gives (λ x. x) result (left self.new) (fragment_definition room (left self.old)) }
+        ensures reads { Gives (λ x. x) result (left self.new) (fragment_definition room (left self.old)) }
+        ensures same { text_end self.new ≡ text_end self.old }
     {
         self.take(Terminal::Word("fragment"))?;
         let word = self.take(Terminal::FragmentName)?;
@@ -109,8 +113,8 @@ impl<'a> Parser<'a> {
         let directives = self.directives(false, room)?;
         let selections = self.selections(room)?;
         Ok(Definition::Fragment(FragmentDef {
-            name: self.text(word)?,
-            condition: self.text(condition)?,
+            name: self.text(&word)?,
+            condition: self.text(&condition)?,
             condition_spot: condition.spot,
             directives,
             selections,

@@ -23,7 +23,6 @@ mod refusal;
 mod selections;
 mod string_token;
 mod terminal;
-mod tokens;
 mod values;
 mod variables;
 

@@ -1,18 +1,17 @@
 //! From a text to a document.
 
-ghost use Rattle.std.specs.Prelude.{◌≡◌, ◌≤◌, ◌<◌, ◌⊎◌, [], List, map, length, Ok, Err};
-ghost use Rattle.gql_lex.specs.Tokens.{lexeme};
+ghost use Rattle.std.specs.Prelude.{◌≡◌, ◌≤◌, ◌<◌, ◌⊎◌, [], length, Ok, Err};
 ghost use Rattle.gql_doc.specs.Answer.{Answers, Is, most_bytes};
 ghost use Rattle.gql_doc.specs.Nesting.{limit};
-ghost use Rattle.gql_doc.specs.inner.Outcomes.{outcome, found, at_end, refusal_of};
+ghost use Rattle.gql_doc.specs.inner.Left.{left, text_end, coming, end_of};
+ghost use Rattle.gql_doc.specs.inner.Outcomes.{outcome, found, refusal_of, at_end};
 ghost use Rattle.gql_doc.specs.inner.Reading.{document};
 ghost use Rattle.gql_model.specs.declared.syntax.Document.{Document as DocumentOf};
 ghost use Rattle.gql_doc.specs.declared.refusal.ParseRefusal.TheVariants as refusal;
 
 use crate::parser::{Parser, Stop};
 use crate::refusal::ParseRefusal;
-use crate::tokens::{TextEnd, tokens_of};
-use gql_lex::Token;
+use gql_lex::LexRefusal;
 use gql_model::{Document, limits};
 use gql_tree::Spot;
 use std::alloc::Global;
@@ -29,50 +28,49 @@ pub fn parse(alloc: Global, text: &str) -> Result<Document, ParseRefusal>
     if text.len() as u64 > limits::DOCUMENT_BYTES {
         return Err(ParseRefusal::TooLong);
     }
-    let tokens = tokens_of(alloc, text)?;
-    read(alloc, tokens.items.as_slice(), tokens.end)
+    read(alloc, text)
 }
 
-/// Reads a document from the tokens of a text.
-fn read(alloc: Global, tokens: &[Token<'_>], end: TextEnd) -> Result<Document, ParseRefusal>
-    ensures { (result ≡ outcome (document limit (map lexeme tokens.now)) end) ⊎ (result ≡ Err refusal.NoMemory) }
+/// Reads a document from a text of fewer than 4,294,967,295 bytes.
+fn read(alloc: Global, text: &str) -> Result<Document, ParseRefusal>
+    requires { length text.now < 4294967295 }
+    ensures { (result ≡ outcome (document limit (coming [] text.now).tokens) (end_of text.now)) ⊎ (result ≡ Err refusal.NoMemory) }
 {
-    let mut parser = Parser::new(alloc, tokens);
+    let mut parser = Parser::new(alloc, text);
     match parser.document(limits::SYNTAX_NESTING) {
-        Ok(document) => found(document, end),
-        Err(why) => Err(refusal_of(why, parser.next_spot(), end)),
+        Ok(document) => found(document, parser.end()),
+        Err(why) => Err(refusal_of(why, &parser)),
     }
 }
 
 /// A document whose tokens are all that the text has before its end.
-fn found(document: Document, end: TextEnd) -> Result<Document, ParseRefusal>
+fn found(document: Document, end: Result<Spot, LexRefusal>) -> Result<Document, ParseRefusal>
     ensures { result ≡ found document end }
 {
     match end {
-        TextEnd::Whole(_) => Ok(document),
-        TextEnd::Refused(refusal) => Err(ParseRefusal::Lex(refusal)),
+        Ok(_) => Ok(document),
+        Err(refusal) => Err(ParseRefusal::Lex(refusal)),
     }
 }
 
-/// Why a text is refused where the parser stopped before the token that begins at `next`, or behind
-/// the last one.
-fn refusal_of(why: Stop, next: Option<Spot>, end: TextEnd) -> ParseRefusal
-    ensures { result ≡ refusal_of why next end }
+/// Why a text is refused where the parser stops.
+fn refusal_of(why: Stop, parser: &Parser<'_>) -> ParseRefusal
+    ensures { result ≡ refusal_of why (left parser.now) (text_end parser.now) }
 {
-    match (why, next) {
+    match (why, parser.next_spot()) {
         (Stop::NoMemory, _) => ParseRefusal::NoMemory,
         (Stop::Unexpected, Some(spot)) => ParseRefusal::Unexpected { spot },
         (Stop::TooDeep, Some(spot)) => ParseRefusal::TooDeep { spot },
-        (_, None) => at_end(end),
+        (_, None) => at_end(parser.end()),
     }
 }
 
 /// Why a text is refused whose tokens end inside a document.
-fn at_end(end: TextEnd) -> ParseRefusal
+fn at_end(end: Result<Spot, LexRefusal>) -> ParseRefusal
     ensures { result ≡ at_end end }
 {
     match end {
-        TextEnd::Whole(spot) => ParseRefusal::Unexpected { spot },
-        TextEnd::Refused(refusal) => ParseRefusal::Lex(refusal),
+        Ok(spot) => ParseRefusal::Unexpected { spot },
+        Err(refusal) => ParseRefusal::Lex(refusal),
     }
 }

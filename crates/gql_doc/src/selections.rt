@@ -2,11 +2,11 @@
 
 ghost use Rattle.std.specs.Prelude.{codes, ◌≡◌, option_map, MatchResult};
 ghost use Rattle.gql_lex.specs.Tokens.{lexeme};
-ghost use Rattle.gql_doc.specs.inner.Left.{left};
+ghost use Rattle.gql_doc.specs.inner.Left.{left, text_end};
 ghost use Rattle.gql_doc.specs.Grammar.{alias_by, name_by, inline_spot};
 ghost use Rattle.gql_doc.specs.Terminals.{is_punctuator, is_word, is_name};
 ghost use Rattle.gql_doc.specs.declared.parser.Stop.TheVariants as stop;
-ghost use Rattle.gql_doc.specs.inner.Reading.{Gives, next_is, many, optional, listed, aliased, type_condition, field, lone_field, behind_name, behind_names, spread, inline_fragment, any_selection, selection_set, selections, begins_selection, is_on};
+ghost use Rattle.gql_doc.specs.inner.Reading.{Gives, next_is, many, optional, listed, aliased, type_condition, field, plain_field, behind_name, behind_names, spread, inline_fragment, any_selection, selection_set, selections, begins_selection, is_on};
 
 use crate::parser::{Parser, Stop};
 use crate::terminal::Terminal;
@@ -19,7 +19,8 @@ impl<'a> Parser<'a> {
     #[cycle(selection)]
     #[tactic(auto, using(crate::proofs::Rooms::selection_set_more, crate::proofs::Rooms::selection_set_none))]
     pub(crate) fn selection_set(&mut self, room: u32) -> Result<(Spot, Listed<Selection>), Stop>
-        ensures { Gives (λ x. x) result (left self.new) (selection_set room (left self.old)) }
+        ensures reads { Gives (λ x. x) result (left self.new) (selection_set room (left self.old)) }
+        ensures same { text_end self.new ≡ text_end self.old }
     {
         if room == 0 {
             return Err(Stop::where_shut(self.next_is(Terminal::Punctuator("{"))));
@@ -34,13 +35,11 @@ impl<'a> Parser<'a> {
     /// `Selection*`
     #[cycle(selection)]
     fn some_selections(&mut self, room: u32) -> Result<Listed<Selection>, Stop>
-        ensures { Gives (λ x. x) result (left self.new) (many begins_selection (any_selection room (selections room)) (left self.old)) }
+        ensures reads { Gives (λ x. x) result (left self.new) (many begins_selection (any_selection room (selections room)) (left self.old)) }
+        ensures same { text_end self.new ≡ text_end self.old }
     {
         let mut selections = Listed::new(self.alloc);
-        for _ in 0..self.count() {
-            if !self.next_is_selection() {
-                return Ok(selections);
-            }
+        while self.next_is_selection() {
             selections.push(self.selection(room)?)?;
         }
         Ok(selections)
@@ -57,7 +56,8 @@ impl<'a> Parser<'a> {
     #[cycle(selection)]
     #[tactic(auto, unfolding(crate::specs::inner::Reading::selections))]
     pub(crate) fn selections(&mut self, room: u32) -> Result<Listed<Selection>, Stop>
-        ensures { Gives (λ x. x) result (left self.new) (selections room (left self.old)) }
+        ensures reads { Gives (λ x. x) result (left self.new) (selections room (left self.old)) }
+        ensures same { text_end self.new ≡ text_end self.old }
     {
         let (_, selections) = self.selection_set(room)?;
         Ok(selections)
@@ -67,7 +67,8 @@ impl<'a> Parser<'a> {
     #[cycle(selection)]
     #[tactic(auto, unfolding(crate::specs::inner::Reading::any_selection))]
     fn selection(&mut self, room: u32) -> Result<Selection, Stop>
-        ensures { Gives (λ x. x) result (left self.new) (any_selection room (selections room) (left self.old)) }
+        ensures reads { Gives (λ x. x) result (left self.new) (any_selection room (selections room) (left self.old)) }
+        ensures same { text_end self.new ≡ text_end self.old }
     {
         if self.next_is(Terminal::Name) {
             return self.field(room);
@@ -84,26 +85,31 @@ impl<'a> Parser<'a> {
     #[cycle(selection)]
     #[tactic(auto, unfolding(crate::specs::inner::Reading::field))]
     fn field(&mut self, room: u32) -> Result<Selection, Stop>
-        ensures { Gives (λ x. x) result (left self.new) (field room (selections room) (left self.old)) }
+        ensures reads { Gives (λ x. x) result (left self.new) (field room (selections room) (left self.old)) }
+        ensures same { text_end self.new ≡ text_end self.old }
     {
         let first = self.take(Terminal::Name)?;
         if self.next_is(Terminal::FieldPart) {
-            self.behind_name(room, first)
-        } else {
-            self.lone_field(first)
+            return self.behind_name(room, &first);
         }
+        let selections = self.maybe_selections(room)?;
+        self.plain_field(&first, selections)
     }
 
-    /// `Field` that is only its name
-    fn lone_field(&self, name: &Token<'_>) -> Result<Selection, Stop>
-        ensures { MatchResult result (λ field. field ≡ lone_field (lexeme name.now)) (λ why. why ≡ stop.NoMemory) }
+    /// `Field` without an alias, arguments and directives
+    fn plain_field(
+        &self,
+        name: &Token<'_>,
+        selections: Listed<Selection>,
+    ) -> Result<Selection, Stop>
+        ensures { MatchResult result (λ field. field ≡ plain_field (lexeme name.now) selections) (λ why. why ≡ stop.NoMemory) }
     {
         Ok(Selection::Field(FieldNode {
             alias: None,
             name: self.text(name)?,
             arguments: Listed::new(self.alloc),
             directives: Listed::new(self.alloc),
-            selections: Listed::new(self.alloc),
+            selections,
             spot: name.spot,
         }))
     }
@@ -112,7 +118,8 @@ impl<'a> Parser<'a> {
     #[cycle(selection)]
     #[tactic(auto, unfolding(crate::specs::inner::Reading::behind_name))]
     fn behind_name(&mut self, room: u32, first: &Token<'_>) -> Result<Selection, Stop>
-        ensures { Gives (λ x. x) result (left self.new) (behind_name room (selections room) (lexeme first.now) (left self.old)) }
+        ensures reads { Gives (λ x. x) result (left self.new) (behind_name room (selections room) (lexeme first.now) (left self.old)) }
+        ensures same { text_end self.new ≡ text_end self.old }
     {
         let second = self.aliased()?;
         self.behind_names(room, first, second)
@@ -125,9 +132,10 @@ impl<'a> Parser<'a> {
         &mut self,
         room: u32,
         first: &Token<'_>,
-        second: Option<&Token<'_>>,
+        second: Option<Token<'_>>,
     ) -> Result<Selection, Stop>
-        ensures { Gives (λ x. x) result (left self.new) (behind_names room (selections room) (lexeme first.now) (option_map (λ token. lexeme token.now) second.entry) (left self.old)) }
+        ensures reads { Gives (λ x. x) result (left self.new) (behind_names room (selections room) (lexeme first.now) (option_map lexeme second.entry) (left self.old)) }
+        ensures same { text_end self.new ≡ text_end self.old }
     {
         let arguments = self.arguments(false, room)?;
         let directives = self.directives(false, room)?;
@@ -146,7 +154,8 @@ impl<'a> Parser<'a> {
     /// `SelectionSet?`
     #[cycle(selection)]
     fn maybe_selections(&mut self, room: u32) -> Result<Listed<Selection>, Stop>
-        ensures { Gives (λ x. x) result (left self.new) (listed (is_punctuator (codes "{")) (selections room) (left self.old)) }
+        ensures reads { Gives (λ x. x) result (left self.new) (listed (is_punctuator (codes "{")) (selections room) (left self.old)) }
+        ensures same { text_end self.new ≡ text_end self.old }
     {
         if self.next_is(Terminal::Punctuator("{")) {
             self.selections(room)
@@ -159,19 +168,20 @@ impl<'a> Parser<'a> {
     fn alias_and_name(
         &self,
         first: &Token<'_>,
-        second: Option<&Token<'_>>,
+        second: Option<Token<'_>>,
     ) -> Result<(Option<Text>, Text), Stop>
-        ensures { MatchResult result (λ names. (names.0 ≡ alias_by (lexeme first.now) (option_map (λ token. lexeme token.now) second.entry)) × (names.1 ≡ name_by (lexeme first.now) (option_map (λ token. lexeme token.now) second.entry))) (λ why. why ≡ stop.NoMemory) }
+        ensures { MatchResult result (λ names. (names.0 ≡ alias_by (lexeme first.now) (option_map lexeme second.entry)) × (names.1 ≡ name_by (lexeme first.now) (option_map lexeme second.entry))) (λ why. why ≡ stop.NoMemory) }
     {
         match second {
-            Some(second) => Ok((Some(self.text(first)?), self.text(second)?)),
+            Some(second) => Ok((Some(self.text(first)?), self.text(&second)?)),
             None => Ok((None, self.text(first)?)),
         }
     }
 
     /// The name behind an alias and its colon, where a colon stands next.
-    fn aliased(&mut self) -> Result<Option<&'a Token<'a>>, Stop>
-        ensures { Gives (λ found. option_map (λ token. lexeme token.now) found) result (left self.new) (optional (is_punctuator (codes ":")) aliased (left self.old)) }
+    fn aliased(&mut self) -> Result<Option<Token<'a>>, Stop>
+        ensures reads { Gives (λ found. option_map lexeme found) result (left self.new) (optional (is_punctuator (codes ":")) aliased (left self.old)) }
+        ensures same { text_end self.new ≡ text_end self.old }
     {
         if !self.next_is(Terminal::Punctuator(":")) {
             return Ok(None);
@@ -183,12 +193,13 @@ impl<'a> Parser<'a> {
     /// `FragmentSpread`, behind its `...`
     #[tactic(auto, unfolding(crate::specs::inner::Reading::spread))]
     fn spread(&mut self, room: u32) -> Result<Selection, Stop>
-        ensures { Gives (λ x. x) result (left self.new) (spread room (left self.old)) }
+        ensures reads { Gives (λ x. x) result (left self.new) (spread room (left self.old)) }
+        ensures same { text_end self.new ≡ text_end self.old }
     {
         let word = self.take(Terminal::FragmentName)?;
         let directives = self.directives(false, room)?;
         Ok(Selection::Spread(SpreadNode {
-            name: self.text(word)?,
+            name: self.text(&word)?,
             directives,
             spot: word.spot,
         }))
@@ -198,7 +209,8 @@ impl<'a> Parser<'a> {
     #[cycle(selection)]
     #[tactic(auto, unfolding(crate::specs::inner::Reading::inline_fragment))]
     fn inline_fragment(&mut self, room: u32, dots: Spot) -> Result<Selection, Stop>
-        ensures { Gives (λ x. x) result (left self.new) (inline_fragment room (selections room) dots (left self.old)) }
+        ensures reads { Gives (λ x. x) result (left self.new) (inline_fragment room (selections room) dots (left self.old)) }
+        ensures same { text_end self.new ≡ text_end self.old }
     {
         let condition = self.maybe_type_condition()?;
         let directives = self.directives(false, room)?;
@@ -212,8 +224,9 @@ impl<'a> Parser<'a> {
     }
 
     /// `TypeCondition?`
-    fn maybe_type_condition(&mut self) -> Result<Option<&'a Token<'a>>, Stop>
-        ensures { Gives (λ found. option_map (λ token. lexeme token.now) found) result (left self.new) (optional is_on type_condition (left self.old)) }
+    fn maybe_type_condition(&mut self) -> Result<Option<Token<'a>>, Stop>
+        ensures reads { Gives (λ found. option_map lexeme found) result (left self.new) (optional is_on type_condition (left self.old)) }
+        ensures same { text_end self.new ≡ text_end self.old }
     {
         if !self.next_is(Terminal::Word("on")) {
             return Ok(None);
@@ -222,8 +235,9 @@ impl<'a> Parser<'a> {
     }
 
     /// `TypeCondition`
-    pub(crate) fn type_condition(&mut self) -> Result<&'a Token<'a>, Stop>
-        ensures { Gives (λ token. lexeme token.now) result (left self.new) (type_condition (left self.old)) }
+    pub(crate) fn type_condition(&mut self) -> Result<Token<'a>, Stop>
+        ensures reads { Gives lexeme result (left self.new) (type_condition (left self.old)) }
+        ensures same { text_end self.new ≡ text_end self.old }
     {
         self.take(Terminal::Word("on"))?;
         self.take(Terminal::Name)
@@ -231,8 +245,8 @@ impl<'a> Parser<'a> {
 }
 
 /// Where an inline fragment stands: at its type, and at its `...` where it has none.
-fn inline_spot(dots: Spot, condition: Option<&Token<'_>>) -> Spot
-    ensures { result ≡ inline_spot dots (option_map (λ token. lexeme token.now) condition.entry) }
+fn inline_spot(dots: Spot, condition: Option<Token<'_>>) -> Spot
+    ensures { result ≡ inline_spot dots (option_map lexeme condition.entry) }
 {
     match condition {
         Some(word) => word.spot,

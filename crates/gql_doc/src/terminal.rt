@@ -23,12 +23,13 @@ pub(crate) enum Terminal {
     FragmentName,
     /// `query`, `mutation` or `subscription`.
     OperationType,
-    /// What goes on with a field behind its name: `:`, `(`, `@` or `{`.
+    /// What begins all that may stand between a field's name and its selection set: `:`, `(` or `@`.
     FieldPart,
 }
 
 impl Terminal {
-    /// Whether a token is this terminal.
+    /// Whether a token is this terminal. Most callers name the terminal, so little is left of this where it is inlined.
+    #[inline(always)]
     pub(crate) fn matches(self, token: &Token<'_>) -> bool
         ensures { result ≡ matches self (lexeme token.now) }
     {
@@ -45,6 +46,7 @@ impl Terminal {
     }
 }
 
+#[inline(always)]
 fn is_punctuator(token: &Token<'_>, text: &str) -> bool
     ensures { result ≡ is_punctuator text.now (lexeme token.now) }
 {
@@ -52,6 +54,7 @@ fn is_punctuator(token: &Token<'_>, text: &str) -> bool
 }
 
 /// Whether two texts are the same. Texts of one byte, as most punctuators are, are compared at once.
+#[inline(always)]
 fn is_same(left: &str, right: &str) -> bool
     ensures { result ≡ bytes_eq left.now right.now }
 {
@@ -61,6 +64,7 @@ fn is_same(left: &str, right: &str) -> bool
     }
 }
 
+#[inline(always)]
 fn is_name(token: &Token<'_>) -> bool
     ensures { result ≡ is_name (lexeme token.now) }
 {
@@ -98,9 +102,10 @@ fn is_operation_type(token: &Token<'_>) -> bool
         && (token.text == "query" || token.text == "mutation" || token.text == "subscription")
 }
 
+#[inline(always)]
 fn is_field_part(token: &Token<'_>) -> bool
     ensures { result ≡ is_field_part (lexeme token.now) }
 {
     matches!(token.kind, TokenKind::Punctuator)
-        && matches!(token.text.as_bytes(), [b':' | b'(' | b'@' | b'{'])
+        && matches!(token.text.as_bytes(), [b':' | b'(' | b'@'])
 }

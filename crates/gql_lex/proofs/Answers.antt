@@ -43,3 +43,15 @@ next_of-wrong passed rest count inside fault spot r count_is found spot_is r_is 
     ∙ ap (spot_at ((passed ++ take count rest) ++ take inside (drop count rest))) (sym (drop-drop inside count rest)))
     ∙ ap (answer_by (passed ++ take count rest) (drop count rest)) found
     ∙ ap (λ n. answer_by (passed ++ take n rest) (drop n rest) (front (drop n rest))) count_is
+
+-- the place behind some blanks and a token, by the place before them
+pub spot_at-more : (text : List ℕ) (start count len : ℕ) (spot behind : Spot)
+    → spot ≡ spot_at (take start text ++ take count (drop start text)) (drop count (drop start text))
+    → (spot ≡ spot_at (take start text ++ take count (drop start text)) (drop count (drop start text)) → behind ≡ spot_at ((take start text ++ take count (drop start text)) ++ take len (drop count (drop start text))) (drop len (drop count (drop start text))))
+    → behind ≡ spot_at (take (start + count + len) text) (drop (start + count + len) text)
+spot_at-more text start count len spot behind here there =
+    there here
+    ∙ ap (λ p. spot_at (p ++ take len (drop count (drop start text))) (drop len (drop count (drop start text)))) (sym (take-split start count text))
+    ∙ ap (λ t. spot_at (take (start + count) text ++ take len t) (drop len t)) (drop-drop count start text)
+    ∙ ap (λ p. spot_at p (drop len (drop (start + count) text))) (sym (take-split (start + count) len text))
+    ∙ ap (spot_at (take (start + count + len) text)) (drop-drop len (start + count) text)

@@ -61,14 +61,12 @@ told (Ok None) = Ok None
 told (Ok (Some token)) = Ok (Some (lexeme token))
 told (Err refusal) = Err refusal
 
--- what is left of the text that a lexer goes over
-abbrev pub left : Lexer → List ℕ
-left lexer = lexer.rest.now
+-- what a lexer has done of its text, and what is left of it
+abbrev pub passed : Lexer → List ℕ
+passed lexer = take lexer.start lexer.text.now
 
--- the lexer stands behind `passed`: it has counted its bytes, and its lines and columns
-pub record Stands (passed : List ℕ) (lexer : Lexer) : Type 0 where
-  pub start : lexer.start ≡ length passed
-  pub spot : lexer.spot ≡ spot_at passed (left lexer)
+abbrev pub left : Lexer → List ℕ
+left lexer = drop lexer.start lexer.text.now
 
 -- ---- the tokens of a text
 

@@ -80,6 +80,9 @@ pub(crate) fn behind_all(spot: Spot, text: &[u8], count: usize) -> Spot
     ensures line { result.line ≤ spot.line + count }
     ensures column { result.column ≤ spot.column + count }
 {
+    if count < FEW {
+        return behind_each(spot, text, count);
+    }
     let passed = &text[..count];
     if has_line_end(passed) {
         behind_each(spot, text, count)
@@ -95,11 +98,7 @@ const FEW: usize = 16;
 fn has_line_end(text: &[u8]) -> bool
     ensures { result ≡ list_any is_line_end text.now }
 {
-    if text.len() < FEW {
-        text.iter().any(|byte| is_line_end(*byte))
-    } else {
-        memchr2(b'\n', b'\r', text).is_some()
-    }
+    memchr2(b'\n', b'\r', text).is_some()
 }
 
 /// The place behind `passed` on the same line.

@@ -228,9 +228,9 @@ aliased = punctuator (codes ":") >>= λ _. name
 abbrev pub begins_selection : Lexeme → Bool
 begins_selection token = is_name token || is_punctuator (codes "...") token
 
--- a field that is only its name
-abbrev pub lone_field : Lexeme → Selection
-lone_field word = selection.Field (roll-FieldNode (record { alias = None; name = word.text; arguments = []; directives = []; selections = []; spot = word.spot }))
+-- a field without an alias, arguments and directives
+abbrev pub plain_field : Lexeme → List Selection → Selection
+plain_field word inside = selection.Field (roll-FieldNode (record { alias = None; name = word.text; arguments = []; directives = []; selections = inside; spot = word.spot }))
 
 -- a field behind its names
 unfoldable pub behind_names : ℕ → Reader (List Selection) → Lexeme → Option Lexeme → Reader Selection

@@ -2,7 +2,7 @@ use Rattle.gql_doc.proofs.Parsed.{Answers-either, is-either}
 use Rattle.gql_doc.proofs.parsing.parse.Goals as goal
 
 pub returns-clause-answer : goal.returns-clause-answer
-returns-clause-answer c = Answers-either c.args.text.now c.in_ok-tokens.tokens.items c.in_ok-tokens.tokens.end c.as_slice.result.now c.read.result c.in_ok-tokens.ensures.lexed c.in_ok-tokens.ensures.placed c.as_slice.ensures c.read.ensures
+returns-clause-answer c = Answers-either c.args.text.now c.read.result c.read.ensures
 
 pub returns-clause-found : goal.returns-clause-found
-returns-clause-found c = λ it le is. is-either c.args.text.now c.in_ok-tokens.tokens.items c.in_ok-tokens.tokens.end c.as_slice.result.now c.read.result it c.in_ok-tokens.ensures.lexed c.as_slice.ensures c.read.ensures is
+returns-clause-found c = λ it le is. is-either c.args.text.now c.read.result it c.read.ensures is

@@ -1,6 +1,6 @@
-use Rattle.std.proofs.Common.{◌≡◌, ◌+◌, ◌-◌, ◌*◌}
-use Rattle.gql_doc.specs.inner.Left.{left}
-use Rattle.gql_doc.specs.inner.Reading.{many, many_at, begins_selection, any_selection, selections}
+use Rattle.std.proofs.Common.{◌≡◌, ◌+◌, ◌*◌, length}
+use Rattle.gql_doc.specs.inner.Left.{left, text_end}
+use Rattle.gql_doc.specs.inner.Reading.{many, begins_selection, any_selection, selections}
 use Rattle.gql_doc.proofs.Loops.{with_front}
 use Rattle.gql_doc.proofs.parser.Parser.+selection.Given as goal
 
@@ -31,5 +31,11 @@ decreases-selection l = 8 * l.room + 6
 abbrev pub decreases-some_selections : goal.decreases-some_selections
 decreases-some_selections l = 8 * l.room + 7
 
-abbrev pub invariant-some_selections-loop : goal.invariant-some_selections-loop
-invariant-some_selections-loop l = with_front l.selections (many_at (l.end - l.counter) begins_selection (any_selection l.room (selections l.room)) (left l.self)) ≡ many begins_selection (any_selection l.room (selections l.room)) (left l.fn.self)
+abbrev pub invariant-some_selections-loop-selections : goal.invariant-some_selections-loop-selections
+invariant-some_selections-loop-selections l = record {
+  reads : with_front l.selections (many begins_selection (any_selection l.room (selections l.room)) (left l.self)) ≡ many begins_selection (any_selection l.room (selections l.room)) (left l.fn.self);
+  same : text_end l.self ≡ text_end l.fn.self;
+}
+
+abbrev pub decreases-some_selections-loop-selections : goal.decreases-some_selections-loop-selections
+decreases-some_selections-loop-selections l = length (left l.self)

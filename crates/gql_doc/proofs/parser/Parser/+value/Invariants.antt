@@ -1,7 +1,7 @@
-use Rattle.std.proofs.Common.{◌≡◌, ◌+◌, ◌-◌, ◌*◌}
-use Rattle.gql_doc.specs.inner.Left.{left}
+use Rattle.std.proofs.Common.{◌≡◌, ◌+◌, ◌*◌, length}
+use Rattle.gql_doc.specs.inner.Left.{left, text_end}
 use Rattle.gql_doc.specs.Terminals.{is_name}
-use Rattle.gql_doc.specs.inner.Reading.{many, many_at, begins_value, value, argument}
+use Rattle.gql_doc.specs.inner.Reading.{many, begins_value, value, argument}
 use Rattle.gql_doc.proofs.Loops.{with_front}
 use Rattle.gql_doc.proofs.parser.Parser.+value.Given as goal
 
@@ -26,8 +26,20 @@ decreases-members l = 6 * l.room + 3
 abbrev pub decreases-argument : goal.decreases-argument
 decreases-argument l = 6 * l.room + 2
 
-abbrev pub invariant-values-loop : goal.invariant-values-loop
-invariant-values-loop l = with_front l.values (many_at (l.end - l.counter) begins_value (value l.constant l.room) (left l.self)) ≡ many begins_value (value l.constant l.room) (left l.fn.self)
+abbrev pub invariant-values-loop-values : goal.invariant-values-loop-values
+invariant-values-loop-values l = record {
+  reads : with_front l.values (many begins_value (value l.constant l.room) (left l.self)) ≡ many begins_value (value l.constant l.room) (left l.fn.self);
+  same : text_end l.self ≡ text_end l.fn.self;
+}
 
-abbrev pub invariant-members-loop : goal.invariant-members-loop
-invariant-members-loop l = with_front l.members (many_at (l.end - l.counter) is_name (argument (value l.constant l.room)) (left l.self)) ≡ many is_name (argument (value l.constant l.room)) (left l.fn.self)
+abbrev pub decreases-values-loop-values : goal.decreases-values-loop-values
+decreases-values-loop-values l = length (left l.self)
+
+abbrev pub invariant-members-loop-members : goal.invariant-members-loop-members
+invariant-members-loop-members l = record {
+  reads : with_front l.members (many is_name (argument (value l.constant l.room)) (left l.self)) ≡ many is_name (argument (value l.constant l.room)) (left l.fn.self);
+  same : text_end l.self ≡ text_end l.fn.self;
+}
+
+abbrev pub decreases-members-loop-members : goal.decreases-members-loop-members
+decreases-members-loop-members l = length (left l.self)

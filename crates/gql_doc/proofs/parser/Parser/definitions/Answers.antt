@@ -1,9 +1,24 @@
-use Rattle.std.proofs.Common.{arith}
+use Rattle.std.proofs.Common.{◌∙◌, sym}
+use Rattle.std.proofs.lemmas.Result.{err_from_is_err_and}
 use Rattle.gql_doc.specs.inner.Left.{left}
 use Rattle.gql_doc.specs.inner.Reading.{is_any, any_definition}
-use Rattle.gql_doc.proofs.Loops.{any_next, with_front-turn}
+use Rattle.gql_doc.proofs.Loops.{with_front-turn, with_front-stop, with_front-end}
+use Rattle.gql_doc.proofs.Shrinking.{definition-shrinks}
 use Rattle.gql_doc.proofs.parser.Parser.definitions.Goals as goal
 
-pub loop-preserved : goal.loop-preserved
-loop-preserved c =
-    rw c.in_ok-push.ensures.ok (with_front-turn is_any (any_definition c.args.room) c.loop.definitions c.count-end.result c.loop.counter (left c.loop.self) _ (left c.definition.new.self) _ c.loop-test.true (any_next (left c.loop.self) (omega arith)) c.in_ok-definition.ensures c.loop.invariant)
+pub returns-clause-reads : goal.returns-clause-reads
+returns-clause-reads c = with_front-end is_any (any_definition c.args.room) c.loop-definitions.definitions (left c.loop-definitions.self) _ (sym c.has_next.ensures ∙ c.loop-definitions-test.false) c.loop-definitions.invariant.reads
+
+pub returns-in_err-definition-clause-reads : goal.returns-in_err-definition-clause-reads
+returns-in_err-definition-clause-reads c =
+    let p = err_from_is_err_and c.from_residual.result c.from_residual.ensures.1 in
+    rw (p.1, p.2) (with_front-stop is_any (any_definition c.args.room) (definition-shrinks c.args.room) c.loop-definitions.definitions (left c.loop-definitions.self) (left c.definition.new.self) c.in_err-definition.field-0.0 _ (sym c.has_next.ensures ∙ c.loop-definitions-test.true) c.in_err-definition.ensures.reads c.loop-definitions.invariant.reads)
+
+pub loop-definitions-preserved : goal.loop-definitions-preserved
+loop-definitions-preserved c = record {
+  reads = rw c.in_ok-push.ensures.ok (with_front-turn is_any (any_definition c.args.room) (definition-shrinks c.args.room) c.loop-definitions.definitions (left c.loop-definitions.self) _ (left c.definition.new.self) _ (sym c.has_next.ensures ∙ c.loop-definitions-test.true) c.in_ok-definition.ensures.reads c.loop-definitions.invariant.reads);
+  same = c.in_ok-definition.ensures.same ∙ c.loop-definitions.invariant.same;
+}
+
+pub loop-definitions-smaller : goal.loop-definitions-smaller
+loop-definitions-smaller c = definition-shrinks c.args.room (left c.loop-definitions.self) (left c.definition.new.self) _ c.in_ok-definition.ensures.reads

@@ -1,8 +1,14 @@
-use Rattle.std.proofs.Common.{◌≡◌, ◌-◌}
-use Rattle.gql_doc.specs.inner.Left.{left}
-use Rattle.gql_doc.specs.inner.Reading.{many, many_at, is_any, any_definition}
+use Rattle.std.proofs.Common.{◌≡◌, length}
+use Rattle.gql_doc.specs.inner.Left.{left, text_end}
+use Rattle.gql_doc.specs.inner.Reading.{many, is_any, any_definition}
 use Rattle.gql_doc.proofs.Loops.{with_front}
 use Rattle.gql_doc.proofs.parser.Parser.definitions.Given as goal
 
-abbrev pub invariant-loop : goal.invariant-loop
-invariant-loop l = with_front l.definitions (many_at (l.end - l.counter) is_any (any_definition l.room) (left l.self)) ≡ many is_any (any_definition l.room) (left l.fn.self)
+abbrev pub invariant-loop-definitions : goal.invariant-loop-definitions
+invariant-loop-definitions l = record {
+  reads : with_front l.definitions (many is_any (any_definition l.room) (left l.self)) ≡ many is_any (any_definition l.room) (left l.fn.self);
+  same : text_end l.self ≡ text_end l.fn.self;
+}
+
+abbrev pub decreases-loop-definitions : goal.decreases-loop-definitions
+decreases-loop-definitions l = length (left l.self)
