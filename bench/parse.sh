@@ -1,11 +1,12 @@
 #!/usr/bin/env bash
-# Times the parser on documents of 1 KB to 1 MB of four kinds: flat (one field behind another), deep (100 braces, again and
-# again), fragments (many definitions) and strings (long arguments). The program gql_bench parses each document again and
-# again in one process, so its start and the reading of the file are subtracted; cold is the first time in a process, less
-# what a document of one field takes. Beside it stand graphql-core's parse and GraphQL.js's of the same text, warm: the best
-# of several in one process, and of GraphQL.js the better of node's own settings and a large young generation. Each is
-# skipped where it isn't installed. Memory is what the process holds at most while it parses the document once, less what
-# it holds for a document of one field. The gate doesn't run it.
+# Times the parser on documents of 1 KB to 1 MB of four kinds: flat (one field behind another), deep (100 braces, again
+# and again), fragments (many definitions) and strings (long arguments). The program gql_bench parses each document again
+# and again in one process, so its start and the reading of the file are subtracted; cold is the first time in a process,
+# less what a document of one field takes. Beside it stand graphql-core's parse, GraphQL.js's and that of Go's gqlparser
+# of the same text, warm: the best of several in one process. Of GraphQL.js it is the better of node's own settings and a
+# large young generation, of the program the better of the allocator's own settings and ones by which it keeps what was
+# freed. Each of the others is skipped where it isn't installed. Memory is the most that the process holds while it parses
+# the document, less that for a document of one field. The gate doesn't run it.
 set -euo pipefail
 top=$(cd "$(dirname "$0")/.." && pwd)
 program=$top/crates/gql_bench/out/gql_bench
@@ -30,17 +31,22 @@ document() {
     }'
 }
 
-# nanoseconds that the program takes for a document, warm and cold, the best of seven each, and the bytes that it holds
+# nanoseconds that the program takes for a document, warm and cold, the best of five each, and the bytes that it holds
 # beyond those for $2
 measure() {
     python3 - "$program" "$1" "$2" <<'PY'
-import subprocess, sys, time
+import os, subprocess, sys, time
 program, document, least = sys.argv[1:]
 
-def run(name, times):
+KEEPING = dict(os.environ, MALLOC_TRIM_THRESHOLD_='268435456', MALLOC_MMAP_THRESHOLD_='268435456')
+
+def run(name, times, env=None):
     start = time.perf_counter()
-    subprocess.run([program, name, str(times)], check=True, stdout=subprocess.DEVNULL)
+    subprocess.run([program, name, str(times)], check=True, stdout=subprocess.DEVNULL, env=env)
     return time.perf_counter() - start
+
+def best(name, times, env=None):
+    return min(run(name, times, env) for _ in range(5))
 
 # the most that the process held, looked at until it ends; what wait4 tells has what Python held before it became the program
 def held(name):
@@ -55,9 +61,8 @@ def held(name):
 times = 1
 while run(document, times + 1) < 0.3:
     times *= 2
-first = min(run(document, 1) for _ in range(7))
-warm = (min(run(document, times + 1) for _ in range(7)) - first) / times
-cold = first - min(run(least, 1) for _ in range(7))
+warm = min(best(document, times + 1, env) - best(document, 1, env) for env in (None, KEEPING)) / times
+cold = best(document, 1) - best(least, 1)
 print('%.0f %.0f %d' % (warm * 1e9, cold * 1e9, held(document) - held(least)))
 PY
 }
