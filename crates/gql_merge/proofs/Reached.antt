@@ -44,7 +44,7 @@ module _ (p : Payload) (s : State) where
     ended = is_last p.has_next;
   }
 
-  ends : leaves_open p s ≡ false → Ends p s (Ok ended_state)
+  pub ends : leaves_open p s ≡ false → Ends p s (Ok ended_state)
   ends closed = (
     closed,
     record {

@@ -26,15 +26,15 @@ use Rattle.gql_merge.specs.Apply.{Answer, Begins, Announces, Grafts, target, Del
 use Rattle.gql_merge.proofs.Steps.{then_led, then_sure}
 use Rattle.gql_merge.proofs.Received.{initial_payload, later_payload, fields_entry}
 
-ok_same : (s t : State) (r : Answer) → r ≡ Ok s → r ≡ Ok t → s ≡ t
+pub ok_same : (s t : State) (r : Answer) → r ≡ Ok s → r ≡ Ok t → s ≡ t
 ok_same s t r e f = cc
 
-err_ok : (e : MergeRefusal) (s : State) → Err e ≡ Ok s → ⊥
+pub err_ok : (e : MergeRefusal) (s : State) → Err e ≡ Ok s → ⊥
 err_ok e s f = cc
 
 -- ---- the end of a payload
 
-never_ends : (p : Payload) (s : State) → leaves_open p s ≡ false → (e : MergeRefusal) → Ends p s (Err e) → ⊥
+pub never_ends : (p : Payload) (s : State) → leaves_open p s ≡ false → (e : MergeRefusal) → Ends p s (Err e) → ⊥
 never_ends p s closed UnknownId h = h
 never_ends p s closed IdTwice h = h
 never_ends p s closed NoSuchPlace h = h

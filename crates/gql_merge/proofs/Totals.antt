@@ -40,7 +40,7 @@ tied (Name l) (Index j) c p = absurd (cc)
 tied (Name l) (Name m) (Index k) p = refl
 tied (Name l) (Name m) (Name n) p = texts_total.congr l m n p
 
-keys_total : IsTotalOrder key_cmp
+pub keys_total : IsTotalOrder key_cmp
 keys_total = record { antisymm = turned; trans = chained; congr = tied }
 
 paths_total : IsTotalOrder paths

@@ -1,7 +1,9 @@
--- Two typed values that don't clash have a union, and so does a value with one that is put behind a path of it.
+-- Two typed values that don't clash have a union, and so does a value with one that is put behind a path of it; and a list that
+-- stands in a value can be longer.
 use Rattle.std.proofs.Common.{◌≡◌, ℕ, zero, suc, inl, inr, List, [], ◌∷◌, ◌++◌, map, length, refl, sym, subst, ◌∙◌, ap, Bool, true, false, cond, Some, None, Option, IsSome, IsTrue, arith}
 use Rattle.std.specs.Prelude.{slice_get, option_and_then, option_map, ◌&&◌}
 use Rattle.std.specs.Bool.{Decides}
+use Rattle.std.specs.List.{AllByRecursion}
 use Rattle.std.specs.Str.{bytes_eq}
 use Rattle.std.specs.Cmp.{booleans_Decides}
 use Rattle.std.proofs.lemmas.Slice.Eq.{bytes_eq-Decides}
@@ -16,12 +18,14 @@ use Rattle.gql_tree.specs.declared.value.Value.TheVariants.{rolls-List, rolls-Ob
 use Rattle.gql_tree.specs.declared.value.Value.TheVariants as v
 use Rattle.gql_tree.specs.Names.{named, has_name, apart}
 use Rattle.gql_tree.specs.Flat.{Layer, Mark, null, truth, integer, text, object, list, mark_of, items_of, below, find, flat}
-use Rattle.gql_tree.specs.inner.Place.{change_item, change_named, change_below, put_at}
+use Rattle.gql_tree.specs.Extended.{IsLonger}
+use Rattle.gql_tree.specs.inner.Place.{IsList, change_item, change_named, change_below, put_at}
 use Rattle.gql_tree.specs.Typed.{all_items, all_members, typed_step, is_typed, IsTypedValue}
 use Rattle.gql_tree.specs.Union.{IsUnion, Clashes, moved}
 use Rattle.gql_tree.specs.inner.United.{Unites, Conflict, UnitesMaybe, UnitesItems, AllJoin, others}
 use Rattle.gql_tree.proofs.Apart.{apart_changed, joined_apart}
 use Rattle.gql_tree.proofs.Below.{from_below}
+use Rattle.gql_tree.proofs.Extended.{longer, list_again}
 use Rattle.gql_tree.proofs.Grafted.{put_union, clash_moved}
 use Rattle.gql_tree.proofs.Json.{named_map}
 use Rattle.gql_tree.proofs.Marks.{apart-map, left_of, right_of, typed_out, typed_below_value}
@@ -186,3 +190,33 @@ union_by (Some c) a b path e ta tb stands fits =
 pub union_exists_at : (a b : Value) (path : List Key) → IsTypedValue a → IsTypedValue b → IsSome (flat a path) → (Clashes (flat a) (moved path (flat b)) → ⊥)
     → (w : Value) × IsTypedValue w × IsUnion (flat w) (flat a) (moved path (flat b))
 union_exists_at a b path = union_by (find a path) a b path refl
+
+-- ---- a longer list
+
+all_joined : (xs ys : List Value) → all_items is_typed xs ≡ true → AllByRecursion IsTypedValue ys → all_items is_typed (xs ++ ys) ≡ true
+all_joined [] [] h k = refl
+all_joined [] (y ∷ ys) h k = and_true _ _ k.0 (all_joined [] ys refl k.1)
+all_joined (x ∷ xs) ys h k = and_true _ _ (left_of (is_typed x) _ h) (all_joined xs ys (right_of (is_typed x) _ h) k)
+
+list_is : (l : Layer) (n : ℕ) → mark_of l ≡ list n → IsList l
+list_is Value-F.Null n e = cc
+list_is (Value-F.Bool b) n e = cc
+list_is (Value-F.Int z) n e = cc
+list_is (Value-F.Text t) n e = cc
+list_is (Value-F.List items) n e = tt
+list_is (Value-F.Object members) n e = cc
+
+longer_by : (o : Option Value) (a : Value) (path : List Key) (ys : List Value) (n : ℕ) → find a path ≡ o → IsTypedValue a → AllByRecursion IsTypedValue ys → option_map (λ w. mark_of (out-Value w)) o ≡ Some (list n)
+    → (w : Value) × IsTypedValue w × IsLonger (flat w) (flat a) path ys
+longer_by None a path ys n e ta ty has = absurd (cc)
+longer_by (Some c) a path ys n e ta ty has =
+    let same : mark_of (out-Value c) ≡ list n = cc in
+    let is = list_again c (list_is (out-Value c) n same) in
+    let xs = items_of (out-Value c) in
+    let there : find a path ≡ Some (v.List xs) = e ∙ ap Some is in
+    let tc : all_items is_typed xs ≡ true = sym (typed_List xs) ∙ found_typed path a (v.List xs) ta there in
+    (put_at path (v.List (xs ++ ys)) a, put_typed path (v.List (xs ++ ys)) a ta (typed_List (xs ++ ys) ∙ all_joined xs ys tc ty), longer path xs ys a there)
+
+-- where a list stands at the path, there is a value in which it is longer by these items
+pub longer_exists_at : (a : Value) (path : List Key) (ys : List Value) (n : ℕ) → IsTypedValue a → AllByRecursion IsTypedValue ys → flat a path ≡ Some (list n) → (w : Value) × IsTypedValue w × IsLonger (flat w) (flat a) path ys
+longer_exists_at a path ys n = longer_by (find a path) a path ys n refl

@@ -63,24 +63,24 @@ pub record Delivery : Type 0 where
   pub failures : List Failure
 
 -- nothing is delivered
-abbrev nothing : Delivery
+abbrev pub nothing : Delivery
 nothing = record { parts = []; lists = []; failures = [] }
 
 -- two deliveries, one behind the other
-abbrev both : Delivery → Delivery → Delivery
+abbrev pub both : Delivery → Delivery → Delivery
 both a b = record { parts = a.parts ++ b.parts; lists = a.lists ++ b.lists; failures = a.failures ++ b.failures }
 
 -- a region that is delivered, with its streams
-abbrev one : List Key → RegionResult → List ItemRun → Delivery
+abbrev pub one : List Key → RegionResult → List ItemRun → Delivery
 one at r items = record { parts = part at r ∷ []; lists = map (grown_list items) r.streams; failures = flat_map (stream_failures items) r.streams }
 
 -- a scope that is delivered: its root region, what is delivered below it, and its fragments that fail
-abbrev whole_scope : List Key → RegionResult → List ItemRun → Scope → Delivery → Delivery
+abbrev pub whole_scope : List Key → RegionResult → List ItemRun → Scope → Delivery → Delivery
 whole_scope at r items s inside = both (one at r items) (both inside (record { parts = []; lists = []; failures = fragment_failures s }))
 
 -- what is delivered of the tasks of a region of this scope, and below them; `here` tells whether the region is delivered,
 -- and `items` are the items of its streams
-abbrev delivered_below : Scope → Bool → List ItemRun → Branches → Delivery
+abbrev pub delivered_below : Scope → Bool → List ItemRun → Branches → Delivery
 delivered_below s here items none = nothing
 delivered_below s here items (more (Fields g) (grown r inner) bs) =
     both (if is_delivered s g then one g.path.keys r (items_run inner) else nothing)

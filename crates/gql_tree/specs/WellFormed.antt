@@ -165,10 +165,6 @@ abbrev pub collide : Site → Site → Bool
 collide x y = not x.is_root && not y.is_root && same_lists same_key x.at y.at
     && (same_lists (λ i j. i == j) (map (λ o. o.place) x.owners) (map (λ o. o.place) y.owners) || share_a_key x.keys y.keys)
 
--- two roots of scopes at one place
-abbrev pub coincide : Site → Site → Bool
-coincide x y = x.is_root && y.is_root && same_lists same_key x.at y.at
-
 -- ---- streams
 
 -- the list stands in the region's value with its first items, and more are to come
@@ -229,23 +225,9 @@ pub record IsWellFormed (f : Forest) : Type 0 where
   -- a stream goes on with a list of its region, and no two streams with one
   pub streams_stand : EachSite f (λ x. list_all (begins_a_list x) x.region.streams)
   pub streams_apart : IsTrue (no_two (λ s t. same_path s.path t.path) (flat_map (λ x. x.region.streams) (sites f)))
-  -- no two items stand at one place (this follows from the two before and from the tasks of a stream)
-  pub items_apart : IsTrue (no_two coincide (sites f))
   -- a failed region has a fault, and a fault has a line and a column or neither
   pub blamed : EachSite f (λ x. is_blamed x.region)
   pub located : EachSite f (λ x. list_all is_located x.region.faults)
   -- good values are objects with the wanted names
   pub first_object : IsTrue (is_object_if_good (first_region f))
   pub fields : EachSite f has_its_fields
-
--- ---- forests without streams
-
--- none of these regions has a stream, nor has one below it
-abbrev pub HasNoItems : Branches → Type 0
-HasNoItems none = Unit {0}
-HasNoItems (more (Fields g) (grown r inner) bs) = (r.streams ≡ []) × HasNoItems inner × HasNoItems bs
-HasNoItems (more (Item s i) f bs) = ⊥
-
--- no region has a stream
-abbrev pub HasNoStreams : Forest → Type 0
-HasNoStreams (grown r bs) = (r.streams ≡ []) × HasNoItems bs
