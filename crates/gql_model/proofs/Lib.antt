@@ -2,3 +2,6 @@ mod Each
 mod Below
 mod ObjectDepth
 mod ForestDepth
+pub mod Kept
+pub mod Reading
+pub mod Order

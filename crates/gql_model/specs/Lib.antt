@@ -1,6 +1,7 @@
 pub mod formers
 pub mod Lists
 pub mod UsedType
+pub mod LookUps
 pub mod World
 pub mod Tables
 pub mod Lawful
@@ -14,3 +15,10 @@ pub mod Plain
 pub mod Depth
 pub mod Sample
 pub mod Worked
+pub mod rules
+pub mod SchemaSample
+pub mod SyntaxSample
+pub mod Coercing
+pub mod SaidSchema
+pub mod SaidSample
+pub mod inner

@@ -1,5 +1,5 @@
 -- A type in use, as plain data.
-use Rattle.std.specs.Prelude.{ℕ, box_value}
+use Rattle.std.specs.Prelude.{ℕ}
 use Rattle.gql_model.specs.declared.schema.TypeUse.{TypeUse}
 use Rattle.gql_model.specs.declared.schema.TypeUse.TheOpen.{TypeUse-F}
 use Rattle.gql_model.specs.declared.schema.TypeUse.TheFolds.{fold-TypeUse}
@@ -13,8 +13,8 @@ pub data UsedType : Type 0 where
 -- one level, in which the type below is plain data already
 abbrev pub used_type_step : TypeUse-F UsedType → UsedType
 used_type_step (TypeUse-F.Named t) = named t.number
-used_type_step (TypeUse-F.List s) = list (box_value s)
-used_type_step (TypeUse-F.NonNull s) = non_null (box_value s)
+used_type_step (TypeUse-F.List s) = list s
+used_type_step (TypeUse-F.NonNull s) = non_null s
 
 -- the plain data of a type in use
 abbrev pub used_type_of : TypeUse → UsedType

@@ -2,7 +2,7 @@
 
 ghost use Rattle.std.specs.Prelude.{◌≡◌, IfOk};
 
-use gql_tree::NoMemory;
+use gql_tree::{NoMemory, TryCopy};
 use std::alloc::Global;
 use std::marker::Model;
 
@@ -50,5 +50,11 @@ impl<T: Drop> Boxed<T> {
         ensures { IfOk result (λ it. it ≡ value) }
     {
         Boxed::new(*Box::allocator(&self.held), value)
+    }
+}
+
+impl<T: TryCopy> TryCopy for Boxed<T> {
+    fn copy(&self) -> Result<Self, NoMemory> {
+        self.new_like(self.get().copy()?)
     }
 }

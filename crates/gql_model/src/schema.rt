@@ -1,3 +1,6 @@
+//! The types of a service, as execution sees them (chapter 3 of the standard of October 2021).
+
+use crate::{Boxed, ByName};
 use gql_tree::{Listed, Text, Value};
 
 /// A type by its place among the types of its schema, from 0.
@@ -10,8 +13,8 @@ pub struct TypeNo {
 #[derive(Debug, Drop)]
 pub enum TypeUse {
     Named(TypeNo),
-    List(Box<TypeUse>),
-    NonNull(Box<TypeUse>),
+    List(Boxed<TypeUse>),
+    NonNull(Boxed<TypeUse>),
 }
 
 #[derive(Clone, Copy, Debug, PartialEq, Eq)]
@@ -44,8 +47,9 @@ pub struct FieldDef {
 pub struct TypeDef {
     pub name: Text,
     pub kind: TypeKind,
-    pub fields: Listed<FieldDef>,
-    pub inputs: Listed<InputDef>,
+    pub fields: ByName<FieldDef>,
+    /// The fields of an input object.
+    pub inputs: ByName<InputDef>,
     pub interfaces: Listed<TypeNo>,
     /// The object types that a value of this type may have: those of a union or an interface,
     /// and of an object type itself.
@@ -57,7 +61,7 @@ pub struct TypeDef {
 /// The types of a service, the built-in scalars among them, and its root types.
 #[derive(Debug, Drop)]
 pub struct Schema {
-    pub types: Listed<TypeDef>,
+    pub types: ByName<TypeDef>,
     pub query: TypeNo,
     pub mutation: Option<TypeNo>,
     pub subscription: Option<TypeNo>,

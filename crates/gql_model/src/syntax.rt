@@ -2,7 +2,7 @@
 
 ghost use Rattle.std.specs.Prelude.{◌≡◌, IfOk};
 
-use crate::Boxed;
+use crate::{Boxed, Sparse};
 use gql_tree::{Listed, NoMemory, Spot, Text, TryCopy};
 
 /// An executable document (section 2.2).
@@ -73,14 +73,16 @@ pub enum Selection {
     Inline(InlineNode),
 }
 
-/// A field (section 2.5). It has no selection set exactly where `selections` is empty.
+const _: () = prove!(size_of::<Selection>() <= 120);
+
+/// A field (section 2.5). It has no selection set exactly where `selections` is empty. What few fields have lies in boxes.
 #[derive(Debug, Drop)]
 #[cycle(selection)]
 pub struct FieldNode {
-    pub alias: Option<Text>,
+    pub alias: Option<Boxed<Text>>,
     pub name: Text,
-    pub arguments: Listed<Argument>,
-    pub directives: Listed<DirectiveUse>,
+    pub arguments: Sparse<Argument>,
+    pub directives: Sparse<DirectiveUse>,
     pub selections: Listed<Selection>,
     /// Of its first token.
     pub spot: Spot,
@@ -90,7 +92,7 @@ pub struct FieldNode {
 #[derive(Debug, Drop)]
 pub struct SpreadNode {
     pub name: Text,
-    pub directives: Listed<DirectiveUse>,
+    pub directives: Sparse<DirectiveUse>,
     /// Of the name.
     pub spot: Spot,
 }
@@ -100,7 +102,7 @@ pub struct SpreadNode {
 #[cycle(selection)]
 pub struct InlineNode {
     pub condition: Option<Text>,
-    pub directives: Listed<DirectiveUse>,
+    pub directives: Sparse<DirectiveUse>,
     pub selections: Listed<Selection>,
     /// Of the condition's name, or of `...` where there is none.
     pub spot: Spot,
