@@ -122,7 +122,13 @@ impl<'a> Parser<'a> {
             return Err(Stop::Unexpected);
         }
         self.advance();
-        Ok(token)
+        // Made of its fields, which are read one by one: a copy of the whole waits for those just written.
+        Ok(Token {
+            text: token.text,
+            start: token.start,
+            spot: token.spot,
+            kind: token.kind,
+        })
     }
 
     /// Where the next token begins.

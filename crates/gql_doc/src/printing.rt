@@ -9,8 +9,8 @@ ghost use Rattle.gql_doc.specs.inner.Writing.{Adds};
 ghost use Rattle.gql_doc.specs.Printed.{word, string, truth_word, printed_value, printed_argument, printed_arguments, printed_directive, printed_directives, printed_type, printed_default, printed_variable, printed_variables, printed_alias, printed_field, printed_list, printed_spread, printed_condition, printed_inline, printed_selection, printed_selections, operation_word, printed_name, operation_head, printed_operation, printed_fragment, printed_definition, print_text};
 
 use gql_model::{
-    Argument, Definition, DirectiveUse, Document, FieldNode, FragmentDef, InlineNode, Literal,
-    OperationDef, OperationKind, Selection, SpreadNode, TypeRef, VariableDef,
+    Argument, Boxed, Definition, DirectiveUse, Document, FieldNode, FragmentDef, InlineNode,
+    Literal, OperationDef, OperationKind, Selection, SpreadNode, TypeRef, VariableDef,
 };
 use gql_tree::{Listed, NoMemory, Text};
 use std::alloc::Global;
@@ -72,7 +72,7 @@ fn push_head(out: &mut String, operation: &OperationDef) -> Result<(), NoMemory>
     push_piece(out, operation_word(operation.kind))?;
     push_name(out, &operation.name)?;
     push_variables(out, &operation.variables)?;
-    push_directives(out, &operation.directives)
+    push_directives(out, operation.directives.as_slice())
 }
 
 /// Whether it is a query without a name, variables and directives.
@@ -115,7 +115,7 @@ fn push_fragment(out: &mut String, fragment: &FragmentDef) -> Result<(), NoMemor
     push_word(out, &fragment.name)?;
     push_piece(out, "on")?;
     push_word(out, &fragment.condition)?;
-    push_directives(out, &fragment.directives)?;
+    push_directives(out, fragment.directives.as_slice())?;
     push_set(out, &fragment.selections)
 }
 
@@ -140,7 +140,7 @@ fn push_variable(out: &mut String, variable: &VariableDef) -> Result<(), NoMemor
     push_piece(out, ":")?;
     push_type(out, &variable.kind)?;
     push_default(out, &variable.default)?;
-    push_directives(out, &variable.directives)
+    push_directives(out, variable.directives.as_slice())
 }
 
 fn push_type(out: &mut String, kind: &TypeRef) -> Result<(), NoMemory>
@@ -172,10 +172,10 @@ fn push_default(out: &mut String, default: &Option<Literal>) -> Result<(), NoMem
     }
 }
 
-fn push_directives(out: &mut String, directives: &Listed<DirectiveUse>) -> Result<(), NoMemory>
+fn push_directives(out: &mut String, directives: &[DirectiveUse]) -> Result<(), NoMemory>
     ensures { OnOk result (Adds (string_bytes out.old) (string_bytes out.new) (printed_directives directives.now)) }
 {
-    for directive in directives.as_slice() {
+    for directive in directives {
         push_directive(out, directive)?;
     }
     Ok(())
@@ -186,17 +186,17 @@ fn push_directive(out: &mut String, directive: &DirectiveUse) -> Result<(), NoMe
 {
     push_piece(out, "@")?;
     push_word(out, &directive.name)?;
-    push_arguments(out, &directive.arguments)
+    push_arguments(out, directive.arguments.as_slice())
 }
 
-fn push_arguments(out: &mut String, arguments: &Listed<Argument>) -> Result<(), NoMemory>
+fn push_arguments(out: &mut String, arguments: &[Argument]) -> Result<(), NoMemory>
     ensures { OnOk result (Adds (string_bytes out.old) (string_bytes out.new) (printed_arguments arguments.now)) }
 {
     if arguments.is_empty() {
         return Ok(());
     }
     push_piece(out, "(")?;
-    push_members(out, arguments.as_slice())?;
+    push_members(out, arguments)?;
     push_piece(out, ")")
 }
 
@@ -351,8 +351,8 @@ fn push_field(out: &mut String, field: &FieldNode) -> Result<(), NoMemory>
 {
     push_alias(out, &field.alias)?;
     push_word(out, &field.name)?;
-    push_arguments(out, &field.arguments)?;
-    push_directives(out, &field.directives)?;
+    push_arguments(out, field.arguments.as_slice())?;
+    push_directives(out, field.directives.as_slice())?;
     if field.selections.is_empty() {
         return Ok(());
     }
@@ -361,12 +361,12 @@ fn push_field(out: &mut String, field: &FieldNode) -> Result<(), NoMemory>
     push_piece(out, "}")
 }
 
-fn push_alias(out: &mut String, alias: &Option<Text>) -> Result<(), NoMemory>
+fn push_alias(out: &mut String, alias: &Option<Boxed<Text>>) -> Result<(), NoMemory>
     ensures { OnOk result (Adds (string_bytes out.old) (string_bytes out.new) (printed_alias alias.now)) }
 {
     match alias {
         Some(name) => {
-            push_word(out, name)?;
+            push_word(out, name.get())?;
             push_piece(out, ":")
         }
         None => Ok(()),
@@ -378,7 +378,7 @@ fn push_spread(out: &mut String, spread: &SpreadNode) -> Result<(), NoMemory>
 {
     push_piece(out, "...")?;
     push_word(out, &spread.name)?;
-    push_directives(out, &spread.directives)
+    push_directives(out, spread.directives.as_slice())
 }
 
 #[cycle(selections)]
@@ -387,7 +387,7 @@ fn push_inline(out: &mut String, fragment: &InlineNode) -> Result<(), NoMemory>
 {
     push_piece(out, "...")?;
     push_condition(out, &fragment.condition)?;
-    push_directives(out, &fragment.directives)?;
+    push_directives(out, fragment.directives.as_slice())?;
     push_piece(out, "{")?;
     push_selections(out, fragment.selections.as_slice())?;
     push_piece(out, "}")

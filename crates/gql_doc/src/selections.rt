@@ -11,7 +11,7 @@ ghost use Rattle.gql_doc.specs.inner.Reading.{Gives, next_is, many, optional, li
 use crate::parser::{Parser, Stop};
 use crate::terminal::Terminal;
 use gql_lex::Token;
-use gql_model::{FieldNode, InlineNode, Selection, SpreadNode};
+use gql_model::{Boxed, FieldNode, InlineNode, Selection, Sparse, SpreadNode};
 use gql_tree::{Listed, Spot, Text};
 
 impl<'a> Parser<'a> {
@@ -107,8 +107,8 @@ impl<'a> Parser<'a> {
         Ok(Selection::Field(FieldNode {
             alias: None,
             name: self.text(name)?,
-            arguments: Listed::new(self.alloc),
-            directives: Listed::new(self.alloc),
+            arguments: Sparse::new(),
+            directives: Sparse::new(),
             selections,
             spot: name.spot,
         }))
@@ -144,8 +144,8 @@ impl<'a> Parser<'a> {
         Ok(Selection::Field(FieldNode {
             alias,
             name,
-            arguments,
-            directives,
+            arguments: Sparse::from_listed(self.alloc, arguments)?,
+            directives: Sparse::from_listed(self.alloc, directives)?,
             selections,
             spot: first.spot,
         }))
@@ -169,11 +169,14 @@ impl<'a> Parser<'a> {
         &self,
         first: &Token<'_>,
         second: Option<Token<'_>>,
-    ) -> Result<(Option<Text>, Text), Stop>
+    ) -> Result<(Option<Boxed<Text>>, Text), Stop>
         ensures { MatchResult result (λ names. (names.0 ≡ alias_by (lexeme first.now) (option_map lexeme second.entry)) × (names.1 ≡ name_by (lexeme first.now) (option_map lexeme second.entry))) (λ why. why ≡ stop.NoMemory) }
     {
         match second {
-            Some(second) => Ok((Some(self.text(first)?), self.text(&second)?)),
+            Some(second) => {
+                let alias = Boxed::new(self.alloc, self.text(first)?)?;
+                Ok((Some(alias), self.text(&second)?))
+            }
             None => Ok((None, self.text(first)?)),
         }
     }
@@ -200,7 +203,7 @@ impl<'a> Parser<'a> {
         let directives = self.directives(false, room)?;
         Ok(Selection::Spread(SpreadNode {
             name: self.text(&word)?,
-            directives,
+            directives: Sparse::from_listed(self.alloc, directives)?,
             spot: word.spot,
         }))
     }
@@ -217,7 +220,7 @@ impl<'a> Parser<'a> {
         let selections = self.selections(room)?;
         Ok(Selection::Inline(InlineNode {
             condition: self.text_of(condition)?,
-            directives,
+            directives: Sparse::from_listed(self.alloc, directives)?,
             selections,
             spot: inline_spot(dots, condition),
         }))

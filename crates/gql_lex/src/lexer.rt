@@ -3,7 +3,7 @@
 ghost use Rattle.std.specs.Prelude.{◌≡◌, ℕ, List, [], ◌++◌, ◌+◌, ◌<◌, ◌≤◌, ◌-◌, length, take, drop, slice_index, Some, IfOk, IfSome, IfNone, OnErr};
 ghost use Rattle.gql_lex.specs.Places.{spot_at};
 
-use crate::place::{behind_all, behind_token};
+use crate::place::{behind_all, behind_blanks, behind_token};
 use crate::refusal::LexRefusal;
 use crate::run::blanks_len;
 use crate::scan::{Found, front, refusal};
@@ -104,7 +104,7 @@ impl<'a> Lexer<'a> {
         let text = self.text;
         let rest = self.rest();
         let start = self.start + blanks;
-        let spot = behind_all(self.spot, rest, blanks);
+        let spot = behind_blanks(self.spot, rest, blanks);
         let behind = behind_token(spot, kind, &rest[blanks..], len);
         *self = Lexer {
             text,
@@ -112,10 +112,10 @@ impl<'a> Lexer<'a> {
             spot: behind,
         };
         Token {
-            kind,
             text: cut(text, start, len),
-            start,
+            start: start as u32,
             spot,
+            kind,
         }
     }
 }

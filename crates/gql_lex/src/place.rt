@@ -71,6 +71,23 @@ pub(crate) fn behind_token(spot: Spot, kind: TokenKind, text: &[u8], count: usiz
     }
 }
 
+/// The same as `behind_all`, for what mostly has one byte or none.
+#[inline(always)]
+pub(crate) fn behind_blanks(spot: Spot, text: &[u8], count: usize) -> Spot
+    requires count { count ≤ length text.now }
+    requires line { spot.line + count < 2 ^ 32 }
+    requires column { spot.column + count < 2 ^ 32 }
+    ensures place { IsBehind spot text.now count result }
+    ensures line { result.line ≤ spot.line + count }
+    ensures column { result.column ≤ spot.column + count }
+{
+    match text {
+        [byte, rest @ ..] if count == 1 => behind(spot, *byte, rest),
+        _ if count == 0 => spot,
+        _ => behind_all(spot, text, count),
+    }
+}
+
 /// The place behind the first `count` bytes of a text whose place is `spot`.
 pub(crate) fn behind_all(spot: Spot, text: &[u8], count: usize) -> Spot
     requires count { count ≤ length text.now }

@@ -18,11 +18,14 @@ pub enum TokenKind {
 /// A token of a text.
 #[derive(Clone, Copy, Debug)]
 pub struct Token<'a> {
-    pub kind: TokenKind,
     /// Its slice of the text, with the quotes of a string.
     pub text: &'a str,
     /// How many bytes of the text stand before it.
-    pub start: usize,
+    pub start: u32,
     /// Where it begins.
     pub spot: Spot,
+    /// Stands last, so that no hole lies between the fields.
+    pub kind: TokenKind,
 }
+
+const _: () = prove!(size_of::<Token<'static>>() <= 32);

@@ -43,7 +43,10 @@ fn literal_shown(alloc: Global, literal: &Literal) -> Result<String, Fail> {
 
 /// A field's alias, name and place, with how many arguments, directives and selections it has.
 fn field_shown(alloc: Global, field: &FieldNode) -> Result<String, Fail> {
-    let alias = text_or(&field.alias);
+    let alias = match &field.alias {
+        Some(alias) => alias.get().as_str(),
+        None => "-",
+    };
     let name = field.name.as_str();
     let (arguments, directives) = (field.arguments.len(), field.directives.len());
     let selections = field.selections.len();

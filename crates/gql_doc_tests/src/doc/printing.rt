@@ -3,7 +3,7 @@
 use gql_doc::{parse, print};
 use gql_model::{
     Argument, Boxed, Definition, DirectiveUse, Document, FieldNode, FragmentDef, InlineNode,
-    Literal, OperationDef, OperationKind, Selection, SpreadNode, TypeRef, VariableDef,
+    Literal, OperationDef, OperationKind, Selection, Sparse, SpreadNode, TypeRef, VariableDef,
 };
 use gql_tree::{Listed, NoMemory, Spot, Text};
 use std::alloc::Global;
@@ -55,8 +55,8 @@ fn field(
     Ok(Selection::Field(FieldNode {
         alias: None,
         name: text(alloc, name)?,
-        arguments: Listed::new(alloc),
-        directives,
+        arguments: Sparse::new(),
+        directives: Sparse::from_listed(alloc, directives)?,
         selections,
         spot: HERE,
     }))
@@ -89,10 +89,10 @@ fn printed(alloc: Global, definition: Definition) -> Result<Text, NoMemory> {
 fn with_argument(alloc: Global, value: Literal) -> Result<Text, NoMemory> {
     let given = argument(alloc, "of", value)?;
     let asked = Selection::Field(FieldNode {
-        alias: Some(text(alloc, "b")?),
+        alias: Some(Boxed::new(alloc, text(alloc, "b")?)?),
         name: text(alloc, "a")?,
-        arguments: one(alloc, given)?,
-        directives: Listed::new(alloc),
+        arguments: Sparse::from_listed(alloc, one(alloc, given)?)?,
+        directives: Sparse::new(),
         selections: Listed::new(alloc),
         spot: HERE,
     });
@@ -137,7 +137,7 @@ fn on_droids(alloc: Global) -> Result<Selection, NoMemory> {
     let selections = two(alloc, leaf(alloc, "id")?, leaf(alloc, "name")?)?;
     Ok(Selection::Inline(InlineNode {
         condition: Some(text(alloc, "Droid")?),
-        directives: Listed::new(alloc),
+        directives: Sparse::new(),
         selections,
         spot: HERE,
     }))
@@ -146,7 +146,7 @@ fn on_droids(alloc: Global) -> Result<Selection, NoMemory> {
 fn spread(alloc: Global, name: &str) -> Result<Selection, NoMemory> {
     Ok(Selection::Spread(SpreadNode {
         name: text(alloc, name)?,
-        directives: Listed::new(alloc),
+        directives: Sparse::new(),
         spot: HERE,
     }))
 }

@@ -1,6 +1,8 @@
+use Rattle.std.proofs.Common.{ap}
 use Rattle.std.proofs.lemmas.Result.{on_ok_weaker}
 use Rattle.gql_lex.specs.declared.token.TokenKind.TheVariants as kind
-use Rattle.gql_doc.proofs.Writing.{wrote}
+use Rattle.gql_doc.specs.Printed.{printed_directives}
+use Rattle.gql_doc.proofs.Writing.{wrote, named}
 use Rattle.gql_doc.proofs.printing.push_variable.Goals as goal
 
 pub returns : goal.returns
@@ -10,5 +12,5 @@ returns c =
     (wrote c.in_ok-push_word.ensures
     (wrote (c.in_ok-push_piece-2.ensures kind.Punctuator)
     (wrote c.in_ok-push_type.ensures
-    (wrote c.in_ok-push_default.ensures h)))))
+    (wrote c.in_ok-push_default.ensures (named (ap printed_directives c.as_slice.ensures) h))))))
     c.push_directives.ensures

@@ -15,8 +15,8 @@ invariant_of-self-clause-place c =
     let bytes : rest ≡ left = c.rest-rest.ensures in
     let here : take (length rest - blanks) (drop blanks rest) ≡ drop blanks left = take_rest rest blanks ∙ ap (drop blanks) bytes in
     let before = take start text ++ take blanks left in
-    spot_at-more text start blanks len c.behind_all-spot.result c.behind_token-behind.result
-    (c.behind_all-spot.ensures.place (take start text) (c.args.self.now.place ∙ ap (spot_at (take start text)) (sym bytes))
+    spot_at-more text start blanks len c.behind_blanks-spot.result c.behind_token-behind.result
+    (c.behind_blanks-spot.ensures.place (take start text) (c.args.self.now.place ∙ ap (spot_at (take start text)) (sym bytes))
     ∙ ap (λ t. spot_at (take start text ++ take blanks t) (drop blanks t)) bytes)
     (λ at. c.behind_token-behind.ensures.place before (at ∙ ap (spot_at before) (sym here))
     ∙ ap (λ t. spot_at (before ++ take len t) (drop len t)) here)
