@@ -8,10 +8,9 @@ use Rattle.gql_tree.specs.declared.delivery.Payload.{Payload}
 use Rattle.gql_tree.specs.declared.delivery.Pending.{Pending}
 use Rattle.gql_tree.specs.declared.delivery.Completed.{Completed}
 use Rattle.gql_merge.specs.declared.state.State.{State}
-use Rattle.gql_merge.specs.declared.refusal.MergeRefusal.{MergeRefusal}
-use Rattle.gql_merge.specs.declared.refusal.MergeRefusal.TheVariants.{UnknownId, IdTwice, NoSuchPlace, Clash, AfterEnd, NotAList, OpenAtEnd, BadInitial, NoMemory}
+use Rattle.gql_merge.specs.declared.refusal.MergeRefusal.TheVariants.{IdTwice, AfterEnd}
 use Rattle.gql_merge.specs.Steps.{Each}
-use Rattle.gql_merge.specs.Apply.{Answer, begun, begin_with, Begins, is_known, Announces, opened, without, failed, complete_of, Completes, leaves_open, Ends}
+use Rattle.gql_merge.specs.Apply.{Answer, begun, begin_with, Begins, is_known, Announces, opened, without, failed, complete_of, Completes}
 use Rattle.gql_merge.proofs.Steps.{then_sure}
 
 -- ---- the beginning
@@ -70,16 +69,3 @@ all_completed (c ∷ cs) s open' r h =
     let after : Option Pending → State = λ o. record s { awaited = without c.id s.awaited; failures = s.failures ++ failed_if o c.errors } in
     let m : State = after (opened c.id s.awaited) in
     all_completed cs m open'.2 r (then_sure (Completes c) (Each Completes cs) s m r (λ q k. k ∙ (ap (λ (o : Option Pending). complete_of o c s) open'.1 ∙ ap (λ (o : Option Pending). Ok (after o)) (sym open'.1))) h)
-
--- ---- the end of a payload
-
-pub never_ends : (p : Payload) (s : State) → leaves_open p s ≡ false → (d : MergeRefusal) → Ends p s (Err d) → ⊥
-never_ends p s closed UnknownId h = h
-never_ends p s closed IdTwice h = h
-never_ends p s closed NoSuchPlace h = h
-never_ends p s closed Clash h = h
-never_ends p s closed AfterEnd h = h
-never_ends p s closed NotAList h = h
-never_ends p s closed OpenAtEnd h = absurd (cc)
-never_ends p s closed BadInitial h = h
-never_ends p s closed NoMemory h = h

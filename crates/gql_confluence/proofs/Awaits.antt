@@ -21,7 +21,8 @@ use Rattle.gql_confluence.proofs.Deciders.{same_keys-refl, keys_same}
 use Rattle.gql_confluence.proofs.NoTwo.{no_two_left, no_two_right, no_two_cross, no_two_drop}
 use Rattle.gql_confluence.proofs.Soundness.{is_item_at, items_at, FollowFrom}
 use Rattle.gql_confluence.proofs.Groups.{all_rec_at}
-use Rattle.gql_confluence.proofs.Sites.{listed_item, is_longer}
+use Rattle.gql_confluence.proofs.ItemsApart.{listed_item}
+use Rattle.gql_confluence.proofs.Sites.{is_longer}
 use Rattle.gql_confluence.proofs.Places.{FragmentAwaited, StreamAwaited, Placed, root_place, group_place, places_below, all, fragments_placed, streams_no_two}
 use Rattle.gql_confluence.proofs.Items.{filter_append, flat_append, streams_of, Grows, Elsewhere, skip, none_at, direct, direct_are, alike, follow_from, count, ItemFacts, facts_of, awaits_one}
 
@@ -69,7 +70,7 @@ module _ (r0 : RegionResult) (bs0 : Branches) (wf : IsWellFormed (grown r0 bs0))
   to_if false k x e i = absurd (cc)
 
   tasks_grow : (z : Site) → In z (sites f) → (st : Stream) (n : ℕ) → In (Item st n) z.works → In st z.region.streams
-  tasks_grow z i st n j = (listed_item f wf z.region st n (subst (λ (l : List TaskWork). In (Item st n) l) (all_rec_at (λ (y : Site). y.works ≡ tasks_of y.region) (sites f) wf.grows z i) j)).0
+  tasks_grow z i st n j = (listed_item z.region st n (subst (λ (l : List TaskWork). In (Item st n) l) (all_rec_at (λ (y : Site). y.works ≡ tasks_of y.region) (sites f) wf.grows z i) j)).0
 
   -- two streams with one path don't differ
   clash : (x y : Stream) → alike x y ≡ false → y.path.keys ≡ x.path.keys → ⊥
@@ -94,7 +95,7 @@ module _ (r0 : RegionResult) (bs0 : Branches) (wf : IsWellFormed (grown r0 bs0))
     region_items y i same works sub differ q items when e st j seen =
         let tasks : works_of inner ≡ tasks_of r = sym works ∙ (all_rec_at (λ (z : Site). z.works ≡ tasks_of z.region) (sites f) wf.grows y i ∙ ap tasks_of same) in
         let grows : Grows inner r.streams zs = record {
-          items = λ su n k. (listed_item f wf r su n (subst (λ (l : List TaskWork). In (Item su n) l) tasks k)).0;
+          items = λ su n k. (listed_item r su n (subst (λ (l : List TaskWork). In (Item su n) l) tasks k)).0;
           sites = λ z k su n l. tasks_grow z (sub z k) su n l;
         } in
         let is : items_at c st.path.keys ≡ direct p st.path.keys true rel (items_run inner) inner =

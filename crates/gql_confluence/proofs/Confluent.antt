@@ -18,10 +18,10 @@ use Rattle.gql_merge.specs.Order.{Sorts, fault_cmp}
 use Rattle.gql_merge.specs.Apply.{fresh}
 use Rattle.gql_merge.proofs.Merging.{Merges, typed_value, merged_by}
 use Rattle.gql_merge.proofs.Served.{IsServed}
-use Rattle.gql_confluence.specs.Confluence.{HasFewIds, Confluence}
+use Rattle.gql_confluence.specs.Confluence.{HasFewIds, AreTaken, AreMerged, AreHeard, ByLawfulSchedules}
 use Rattle.gql_confluence.proofs.Parts.{HasAt}
 use Rattle.gql_confluence.proofs.Soundness.{part_of, HasAllOf}
-use Rattle.gql_confluence.proofs.Induction.{courses_are_served}
+use Rattle.gql_confluence.proofs.Induction.{courses_are_served, course_reached}
 use Rattle.gql_confluence.proofs.Sound.{sound}
 use Rattle.gql_confluence.proofs.Bridge.{arrived, delivered_is, settled_is}
 use Rattle.gql_confluence.proofs.Lists.{in_map, to_map, contains_in, in_contains}
@@ -73,7 +73,19 @@ module _ (r0 : RegionResult) (bs0 : Branches) (wf : IsWellFormed (grown r0 bs0))
       let served = courses_are_served co (sound r0 bs0 wf p lawful few) in
       (served.0, λ ps t same hears. all_merged t (served.1 ps t same hears))
 
-pub confluence : Confluence
-confluence f p wf lawful few = by f wf lawful few where
-  by : (g : Forest) → IsWellFormed g → IsLawful g p → HasFewIds g p → IsServed fresh (payloads g p) (Merges g)
-  by (grown r bs) wf' lawful' few' = confluent r bs wf' p lawful' few'
+  heard : HasFewIds f p → AreHeard f p
+  heard few ps same all =
+      let t = course_reached co (sound r0 bs0 wf p lawful few) ps same all in
+      (t.0, t.1, (confluent few).1 ps t.0 same t.1 t.2)
+
+by_parts : (P : Forest → Schedule → Type 0) → ((r : RegionResult) (bs : Branches) (p : Schedule) → IsWellFormed (grown r bs) → IsLawful (grown r bs) p → HasFewIds (grown r bs) p → P (grown r bs) p) → ByLawfulSchedules P
+by_parts P h (grown r bs) p wf lawful few = h r bs p wf lawful few
+
+pub taken : ByLawfulSchedules AreTaken
+taken = by_parts AreTaken (λ r bs p wf lawful few. (confluent r bs wf p lawful few).0)
+
+pub merged : ByLawfulSchedules AreMerged
+merged = by_parts AreMerged (λ r bs p wf lawful few. (confluent r bs wf p lawful few).1)
+
+pub there : ByLawfulSchedules AreHeard
+there = by_parts AreHeard (λ r bs p wf lawful few. heard r bs wf p lawful few)

@@ -1,7 +1,7 @@
 -- A client that is sent the payloads of a sound course, moment by moment.
 use Rattle.std.proofs.Common.{◌≡◌, ◌⊎◌, inl, inr, ℕ, ◌<◌, ◌≤◌, ◌+◌, ◌^◌, List, [], ◌∷◌, ◌++◌, map, refl, sym, subst, ◌∙◌, ap, Bool, true, false, cond, Option, Some, None, decimal, arith, length}
-use Rattle.std.specs.Prelude.{filter, flat_map, not, nat_le, ◌&&◌, ◌||◌, ◌==◌, IsPermutation}
-use Rattle.std.specs.List.{list_any, list_all}
+use Rattle.std.specs.Prelude.{filter, flat_map, not, nat_le, ◌&&◌, ◌||◌, ◌==◌, IsPermutation, IfSome, Ok}
+use Rattle.std.specs.List.{list_any, list_all, AllByRecursion}
 use Rattle.std.proofs.lemmas.Slice.Eq.{bytes_eq-Decides}
 use Rattle.std.proofs.lemmas.Bool.Decides.{nat_tests, Decides-eqb}
 use Rattle.std.proofs.lemmas.List.Sorted.{IsPermutation-sym, IsPermutation-trans, IsPermutation-append_right, IsPermutation-append_left}
@@ -17,10 +17,15 @@ use Rattle.gql_tree.specs.Flat.{flat, Mark}
 use Rattle.gql_tree.specs.Same.{SameFlat, SameMaybe}
 use Rattle.gql_tree.specs.Sound.{SameEntries, SamePayload}
 use Rattle.gql_tree.specs.Ordered.{ordered}
+use Rattle.gql_tree.specs.Typed.{IsTypedValue, IsTypedPayload}
 use Rattle.gql_tree.specs.Merged.{Part}
 use Rattle.gql_merge.specs.declared.state.State.{State}
 use Rattle.gql_merge.specs.Order.{Sorts, fault_cmp, failure_cmp}
-use Rattle.gql_merge.specs.Apply.{begun, failed, faults_of, is_last, is_some_open, fresh, opened}
+use Rattle.gql_merge.specs.Apply.{begun, failed, faults_of, is_last, is_some_open, fresh, opened, Apply}
+use Rattle.gql_merge.specs.Steps.{Each}
+use Rattle.gql_merge.specs.Same.{IsTypedState}
+use Rattle.gql_merge.specs.Merging.{SamePayloads}
+use Rattle.gql_merge.proofs.Reached.{LeadsOn, IsReached}
 use Rattle.gql_merge.proofs.Taken.{IsTaken}
 use Rattle.gql_merge.proofs.Served.{IsServed, served_none, served_more, taken_as}
 use Rattle.gql_tree.specs.Times.{Time, is_at, has_time}
@@ -30,6 +35,7 @@ use Rattle.gql_confluence.proofs.Parts.{In, in_left, in_right, in_cases, HasAt}
 use Rattle.gql_confluence.proofs.Lengths.{Setting, ShowsSet}
 use Rattle.gql_tree.specs.Keys.{same_lists, same_key}
 use Rattle.gql_confluence.proofs.AcceptedItems.{FitsAll, IsFitting, Led, taken, parts_of}
+use Rattle.gql_confluence.proofs.Leads.{leads}
 use Rattle.gql_confluence.proofs.Received.{fits_received}
 use Rattle.gql_confluence.proofs.Soundness.{failure_of, is_item_at, items_at, grow, setting, IsGroupOf, IsItemOfStream, IsSound, HasAllOf, CoursesAreServed, part_of, IsTimed}
 use Rattle.gql_confluence.proofs.Entries.{same_pass, none_pass, grow_none, came, set_by, Chained}
@@ -409,6 +415,11 @@ module _ (c : Course) (sound : IsSound c) where
           (λ n l. (holds_then n l, l.2.ended ∙ ap is_last (sym is.has_next)))
           (taken q s start_set h.parts chained.pieces fitting (λ w. ap (λ o. is_last o && is_some_open still) (sym is.has_next) ∙ closed_by us refl))
 
+      pub leads_now : IsTypedState s → IsTypedPayload q → LeadsOn q s
+      leads_now typed all =
+          leads q s start_set h.parts chained.pieces fitting (λ w. ap (λ o. is_last o && is_some_open still) (sym is.has_next) ∙ closed_by us refl)
+          (subst (λ (o : Option Value). IfSome o IsTypedValue) h.is_value typed) all
+
   -- ---- the first payload
 
   -- the time of a later region
@@ -606,6 +617,11 @@ module _ (c : Course) (sound : IsSound c) where
           (λ n l. (first_holds n l, l.2.ended ∙ ap is_last (sym is.has_next)))
           (taken q fresh first_set (first_part ∷ []) [] first_fitting (λ w. ap (λ o. is_last o && is_some_open first_still) (sym is.has_next) ∙ first_closed_by us refl))
 
+      pub first_leads : IsTypedPayload q → LeadsOn q fresh
+      first_leads all =
+          leads q fresh first_set (first_part ∷ []) [] first_fitting (λ w. ap (λ o. is_last o && is_some_open first_still) (sym is.has_next) ∙ first_closed_by us refl)
+          (subst (λ (o : Option Value). IfSome o IsTypedValue) first_value.2 all.initial) all
+
   -- ---- all payloads
 
   -- a last payload says so
@@ -654,6 +670,25 @@ module _ (c : Course) (sound : IsSound c) where
       more_by [] some h = absurd (h refl)
       more_by (v ∷ vs) some h = more_next v vs some
 
+  -- where the payloads can exist, there is such a client
+  reached_from : (us : List ℕ) (m : ℕ) (s : State) → Later m us → AllDue m us → (c.awaited ≡ [] → us ≡ []) → Holds m s → s.ended ≡ is_last (next_of c us) → IsTypedState s
+      → (ps : List Payload) → SamePayloads (payloads_from c us) ps → AllByRecursion IsTypedPayload ps → (t : State) × Each Apply ps s (Ok t) × IsTypedState t
+  reached_from [] m s later due none h e typed [] same all = (s, refl, typed)
+  reached_from [] m s later due none h e typed (q ∷ ps) same all = absurd same
+  reached_from (t ∷ us) m s later due none h e typed [] same all = absurd same
+  reached_from (t ∷ us) m s later due none h e typed (q ∷ ps) same all =
+      let some : c.awaited ≡ [] → ⊥ = λ f. cons_nil t us (none f) in
+      let more : (us ≡ [] → ⊥) → is_last (next_of c us) ≡ false = more_by us some in
+      let going = e ∙ more_next t us some in
+      let n = leads_now m t us later due s h going q same.0 more typed all.0 in
+      let k = (taken_now m t us later due s h going q same.0 more).1 n.0 n.1 in
+      let rest = reached_from us t n.0 later.1 (all_due_next m t us later.0 due) (λ f. absurd (some f)) k.0 k.1 n.2 ps same.1 all.1 in
+      (rest.0, (n.0, n.1, rest.1), rest.2)
+    where
+      more_by : (vs : List ℕ) → (c.awaited ≡ [] → ⊥) → (vs ≡ [] → ⊥) → is_last (next_of c vs) ≡ false
+      more_by [] some h = absurd (h refl)
+      more_by (v ∷ vs) some h = more_next v vs some
+
   due_from : (u : Time) (a : ℕ) → u ≡ Some a → In u (map (λ x. x.announced) c.awaited ++ (map (λ x. x.released) c.arrivals ++ map (λ x. x.done) c.awaited)) → Due 0 (moments c) u
   due_from u a e i = (a, e, due_all a _ (subst (λ (w : Time). In w (map (λ x. x.announced) c.awaited ++ (map (λ x. x.released) c.arrivals ++ map (λ x. x.done) c.awaited))) e i))
 
@@ -686,6 +721,19 @@ module _ (c : Course) (sound : IsSound c) where
       served_more fresh (HasAllOf c) (payload_at c 0 (Some (value_at sound.first)) sound.first.region.faults (next_of c (moments c))) (payloads_from c (moments c)) (λ n. Holds 0 n × (n.ended ≡ is_last (next_of c (moments c))))
       (λ q is. first_taken (moments c) start_due q is (more_by (moments c) nothing_later))
       (λ n k. served_from (moments c) 0 n (later_all (map (λ a. a.announced) c.awaited ++ (map (λ x. x.released) c.arrivals ++ map (λ a. a.done) c.awaited))) start_due nothing_later k.0 k.1)
+    where
+      more_by : (us : List ℕ) → (c.awaited ≡ [] → us ≡ []) → (us ≡ [] → ⊥) → is_last (next_of c us) ≡ false
+      more_by [] none h = absurd (h refl)
+      more_by (u ∷ us) none h = more_next u us (λ e. h (none e))
+
+  pub course_reached : IsReached (payloads_of sound.first.region c)
+  course_reached [] same all = absurd same
+  course_reached (q ∷ ps) same all =
+      let more : (moments c ≡ [] → ⊥) → is_last (next_of c (moments c)) ≡ false = more_by (moments c) nothing_later in
+      let n = first_leads (moments c) start_due q same.0 more all.0 in
+      let k = (first_taken (moments c) start_due q same.0 more).1 n.0 n.1 in
+      let rest = reached_from (moments c) 0 n.0 (later_all (map (λ a. a.announced) c.awaited ++ (map (λ x. x.released) c.arrivals ++ map (λ a. a.done) c.awaited))) start_due nothing_later k.0 k.1 n.2 ps same.1 all.1 in
+      (rest.0, (n.0, n.1, rest.1), rest.2)
     where
       more_by : (us : List ℕ) → (c.awaited ≡ [] → us ≡ []) → (us ≡ [] → ⊥) → is_last (next_of c us) ≡ false
       more_by [] none h = absurd (h refl)

@@ -4,7 +4,7 @@ use Rattle.std.specs.Prelude.{◌==◌, filter, flat_map, count_by}
 use Rattle.std.specs.List.{sum_by}
 use Rattle.std.specs.Str.{bytes_eq}
 use Rattle.std.proofs.lemmas.Slice.Eq.{bytes_eq-Decides}
-use Rattle.std.proofs.lemmas.Bool.Decides.{Decides-eqb, nat_tests}
+use Rattle.std.proofs.lemmas.Bool.Decides.{nat_tests}
 use Rattle.std.proofs.lemmas.List.Sums.{sum_by-cons, sum_by-append}
 use Rattle.gql_tree.specs.declared.value.Value.{Value}
 use Rattle.gql_tree.specs.declared.delivery.Fault.{Fault}
@@ -18,11 +18,11 @@ use Rattle.gql_tree.specs.Payloads.{Known, all_known, pending_of, completed_of, 
 use Rattle.gql_tree.specs.Lawful.{is_done_in_time}
 use Rattle.gql_confluence.specs.Confluence.{announced_ids, completed_ids, HasOneRecord, IdsAreCompleted}
 use Rattle.gql_confluence.proofs.Parts.{In, in_left, in_right}
-use Rattle.gql_confluence.proofs.Moments.{Later, later_all, due_all}
+use Rattle.gql_confluence.proofs.Moments.{Later, later_all, due_all, at_some, later_than}
 use Rattle.gql_confluence.proofs.Knowns.{Numbered, numbered_at, all_numbered, is_awaited, same_known, few_numbers, one_decimal}
 use Rattle.gql_confluence.proofs.Soundness.{IsTimed}
 use Rattle.gql_confluence.proofs.Earliest.{timed_of}
-use Rattle.gql_confluence.proofs.Lists.{in_filter, in_map, to_map, all_at, contains_in}
+use Rattle.gql_confluence.proofs.Lists.{in_filter, in_map, to_map, all_at, not_true, cons_same, nil_cons, contains_in}
 
 -- ---- counting ids
 
@@ -60,10 +60,6 @@ one_hit id p n (l ∷ ks) h k (inl f) e one =
     let b = no_hits id p ks (λ m j. not_true (bytes_eq id (decimal m.number)) (λ t. let g = numbered_at (l.number + 1) m ks h.1 j in let s = one m (inr j) t in let w : k.number ≡ l.number = ap (λ (x : Known). x.number) f in omega arith)) in
     let d : hit id p l ≡ cond (p k) 1 0 = (λ j. cond (p (sym f j)) (cond (bytes_eq id (decimal (sym f j).number)) 1 0) 0) ∙ (λ j. cond (p k) (cond (e j) 1 0) 0) in
     omega arith
-  where
-    not_true : (b : Bool) → (b ≡ true → ⊥) → b ≡ false
-    not_true true h = absurd (h refl)
-    not_true false h = refl
 one_hit id p n (l ∷ ks) h k (inr i) e one =
     let a = sum_by-cons (hit id p) l ks in
     let rest = one_hit id p (l.number + 1) ks h.1 k i e (λ m j. one m (inr j)) in
@@ -71,10 +67,6 @@ one_hit id p n (l ∷ ks) h k (inr i) e one =
     let d : hit id p l ≡ 0 = (λ j. cond (p l) (cond (no j) 1 0) 0) ∙ by (p l) in
     omega arith
   where
-    not_true : (b : Bool) → (b ≡ true → ⊥) → b ≡ false
-    not_true true h = absurd (h refl)
-    not_true false h = refl
-
     by : (b : Bool) → cond {A = ℕ} b 0 0 ≡ 0
     by true = refl
     by false = refl
@@ -121,11 +113,6 @@ module _ (c : Course) (few : length c.awaited < 2 ^ 64) (timed : (a : Awaited) �
           let w : cond {A = ℕ} (a == u) 1 0 ≡ 0 = let g = l.0 in grind (arith, nat_tests) in
           omega arith
 
-      later_than : (m b : ℕ) (us : List ℕ) → Later m us → In b us → m < b
-      later_than m b [] l i = absurd i
-      later_than m b (u ∷ us) l (inl e) = let g = l.0 in omega arith
-      later_than m b (u ∷ us) l (inr i) = let r = later_than u b us l.1 i in let g = l.0 in omega arith
-
       one_later : (m : ℕ) (us : List ℕ) → Later m us → In a us → count_by (bytes_eq id) (flat_map ids (payloads_from c us)) ≡ 1
       one_later m [] l i = absurd i
       one_later m (u ∷ us) l (inl e) =
@@ -169,16 +156,6 @@ module _ (c : Course) (few : length c.awaited < 2 ^ 64) (timed : (a : Awaited) �
       let n = in_filter (λ (l : Known). is_at t l.awaited.announced) m.0 ks m.1 in
       (m.0, n.0, m.2, n.1)
 
-  at_some : (t a : ℕ) (u : Time) → u ≡ Some a → is_at t u ≡ true → a ≡ t
-  at_some t a u e h = let g : (a == t) ≡ true = ap (is_at t) (sym e) ∙ h in (Decides-eqb a t).0 g
-
-  cons_same : (x y : Payload) (xs ys : List Payload) → x ∷ xs ≡ y ∷ ys → (x ≡ y) × (xs ≡ ys)
-  cons_same x y xs ys e = (cc, cc)
-
-  nil_cons : (xs : List Payload) (q : Payload) (ys : List Payload) → [] ≡ xs ++ q ∷ ys → ⊥
-  nil_cons [] q ys e = cc
-  nil_cons (x ∷ xs) q ys e = cc
-
   -- the fragment or stream, and its moment
   found_later : (us : List ℕ) (before : List Payload) (q : Payload) (after : List Payload) (id : List ℕ) → payloads_from c us ≡ before ++ q ∷ after → In id (announced_ids q)
       → (t : ℕ) × In t us × ((k : Known) × In k ks × (id ≡ decimal k.number) × (is_at t k.awaited.announced ≡ true))
@@ -192,11 +169,6 @@ module _ (c : Course) (few : length c.awaited < 2 ^ 64) (timed : (a : Awaited) �
       (r.0, inr r.1, r.2)
 
   module _ (k : Known) (is : In k ks) (d : ℕ) (done : k.awaited.done ≡ Some d) where
-    later_more : (m b : ℕ) (us : List ℕ) → Later m us → In b us → m < b
-    later_more m b [] l i = absurd i
-    later_more m b (u ∷ us) l (inl e) = let g = l.0 in omega arith
-    later_more m b (u ∷ us) l (inr i) = let r = later_more u b us l.1 i in let g = l.0 in omega arith
-
     not_yet : (t : ℕ) (v : Option Value) (fs : List Fault) (h : Option Bool) → t < d → count_by (bytes_eq (decimal k.number)) (completed_ids (payload_at c t v fs h)) ≡ 0
     not_yet t v fs h l =
         let x = closed k is t v fs h in
@@ -215,7 +187,7 @@ module _ (c : Course) (few : length c.awaited < 2 ^ 64) (timed : (a : Awaited) �
         let same : f.2.0 ≡ k = same_known c f.2.0 k f.2.1 is (one_decimal f.2.0.number k.number (few_numbers c few f.2.0 f.2.1) (few_numbers c few k is) (sym f.2.2)) in
         let at : is_at f.0 k.awaited.announced ≡ true = subst (λ (x : Known). is_at f.0 x.awaited.announced ≡ true) same f.2.3 in
         let le = late f.0 (inr f.1) at in
-        let lt = later_more u f.0 us l.1 f.1 in
+        let lt = later_than u f.0 us l.1 f.1 in
         let x = not_yet u None [] (next_of c us) (omega arith) in
         let x' : count_by (bytes_eq (decimal k.number)) (completed_ids b) ≡ 0 = ap (λ (z : Payload). count_by (bytes_eq (decimal k.number)) (completed_ids z)) (sym s.0) ∙ x in
         let y = none_before u us l.1 before q after s.1 (λ t j h. late t (inr j) h) i in

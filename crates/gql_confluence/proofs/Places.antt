@@ -16,11 +16,12 @@ use Rattle.gql_tree.specs.Forest.{Forest, Branches, grown, none, more}
 use Rattle.gql_tree.specs.Fate.{ItemRun, Scope, scope_of, fragments_below, is_announced, items_run, same_path}
 use Rattle.gql_tree.specs.Times.{Time}
 use Rattle.gql_tree.specs.Course.{Awaited, awaited_fragment, awaited_stream, course, Schedule, Way, at_first, by_owners, by_stream, Arrival, released_at, carriers, item_at}
-use Rattle.gql_tree.specs.WellFormed.{Site, works_of, root_site, keys_of, sites_below, sites, no_two, collide, coincide, IsWellFormed}
+use Rattle.gql_tree.specs.WellFormed.{Site, works_of, root_site, keys_of, sites_below, sites, no_two, collide, IsWellFormed}
 use Rattle.gql_confluence.proofs.Parts.{In, in_left, in_right, in_cases}
 use Rattle.gql_confluence.proofs.Lists.{to_map}
 use Rattle.gql_confluence.proofs.Deciders.{same_keys-refl, same_fragment-refl}
 use Rattle.gql_confluence.proofs.NoTwo.{one_mapped, one_flat, no_two_at, one_element, flat_mapped}
+use Rattle.gql_confluence.proofs.ItemsApart.{coincide, items_apart}
 use Rattle.gql_confluence.proofs.Scopes.{IsOfScope, from_inner, from_rest}
 
 -- a region with the time of its scope, what arrives of it, and the items of its streams
@@ -149,7 +150,7 @@ module _ (r0 : RegionResult) (bs0 : Branches) (wf : IsWellFormed (grown r0 bs0))
     by : (b : Bool) → q.site.is_root ≡ b → q ≡ u
     by true r =
         let t = root_coincides q.site r in
-        one_mapped coincide (λ (z : Placed). z.site) all (ap (no_two coincide) sites_are ∙ wf.items_apart) q u i j (ap (coincide q.site) (sym e) ∙ t) (ap (λ (x : Site). coincide x q.site) (sym e) ∙ t)
+        one_mapped coincide (λ (z : Placed). z.site) all (ap (no_two coincide) sites_are ∙ items_apart (grown r0 bs0) wf) q u i j (ap (coincide q.site) (sym e) ∙ t) (ap (λ (x : Site). coincide x q.site) (sym e) ∙ t)
     by false r =
         let t = group_collides q.site r in
         one_mapped collide (λ (z : Placed). z.site) all (ap (no_two collide) sites_are ∙ wf.groups_apart) q u i j (ap (collide q.site) (sym e) ∙ t) (ap (λ (x : Site). collide x q.site) (sym e) ∙ t)

@@ -1,6 +1,6 @@
 -- The regions of a well-formed forest: each arises in one before it, and no two bring anything to one place.
-use Rattle.std.proofs.Common.{◌≡◌, ◌⊎◌, inl, inr, ℕ, zero, suc, ◌<◌, ◌≤◌, ◌+◌, ◌-◌, List, [], ◌∷◌, ◌++◌, map, length, drop, refl, sym, subst, ◌∙◌, ap, Bool, true, false, cond, Option, Some, None, append_assoc, arith}
-use Rattle.std.specs.Prelude.{nat_lt, not, ◌&&◌, ◌||◌, flat_map}
+use Rattle.std.proofs.Common.{◌≡◌, ◌⊎◌, inl, inr, ℕ, ◌<◌, ◌≤◌, List, [], ◌∷◌, ◌++◌, length, drop, refl, sym, subst, ◌∙◌, ap, Bool, true, false, cond, Option, Some, None, append_assoc, arith}
+use Rattle.std.specs.Prelude.{nat_lt, not, ◌&&◌, ◌||◌}
 use Rattle.std.specs.List.{list_any, list_all}
 use Rattle.std.specs.Str.{bytes_eq}
 use Rattle.std.proofs.lemmas.Slice.Eq.{bytes_eq-Decides}
@@ -10,23 +10,23 @@ use Rattle.gql_tree.specs.declared.path.Key.{Key}
 use Rattle.gql_tree.specs.declared.path.Key.TheVariants.{Index}
 use Rattle.gql_tree.specs.declared.value.Value.{Value, out-Value}
 use Rattle.gql_tree.specs.declared.value.Value.TheVariants.{Null, outs-Null}
-use Rattle.gql_tree.specs.declared.delivery.Group.{Group}
 use Rattle.gql_tree.specs.declared.delivery.Stream.{Stream}
 use Rattle.gql_tree.specs.declared.delivery.RegionResult.{RegionResult}
 use Rattle.gql_tree.specs.declared.delivery.TaskWork.{TaskWork}
 use Rattle.gql_tree.specs.declared.delivery.TaskWork.TheVariants.{Fields, Item}
 use Rattle.gql_tree.specs.Keys.{same_lists, same_key}
 use Rattle.gql_tree.specs.Flat.{Mark, null, truth, integer, text, object, list, mark_of, flat, members_of}
-use Rattle.gql_tree.specs.Forest.{Forest, Branches, grown, none, more, numbers, items_to_come, tasks_of}
+use Rattle.gql_tree.specs.Forest.{Forest, Branches, grown, none, more, tasks_of}
 use Rattle.gql_tree.specs.FirstPayloads.{outcome_value}
 use Rattle.gql_tree.specs.Fate.{is_good, Scope, scope_of}
-use Rattle.gql_tree.specs.WellFormed.{first_region, Site, works_of, root_site, keys_of, sites_below, sites, mark_at, shows_object, no_two, share_a_key, collide, coincide, shows_list, begins_a_list, has_the_keys, has_its_fields, IsWellFormed}
-use Rattle.gql_confluence.proofs.Parts.{In, in_left, in_right, in_cases}
-use Rattle.gql_confluence.proofs.Lists.{and_left, in_map, in_flat, all_at, to_any}
+use Rattle.gql_tree.specs.WellFormed.{first_region, Site, works_of, root_site, keys_of, sites_below, sites, mark_at, shows_object, no_two, share_a_key, collide, shows_list, begins_a_list, has_the_keys, has_its_fields, IsWellFormed}
+use Rattle.gql_confluence.proofs.Parts.{In, in_left, in_right}
+use Rattle.gql_confluence.proofs.Lists.{and_left, all_at, to_any}
 use Rattle.gql_confluence.proofs.Deciders.{same_keys-refl, prefix_drop}
 use Rattle.gql_confluence.proofs.Values.{object_mark}
 use Rattle.gql_confluence.proofs.Owning.{value_in, Proper, Unique}
 use Rattle.gql_confluence.proofs.Disjoint.{IsItemOf, Closed, unique_more, closed_more}
+use Rattle.gql_confluence.proofs.ItemsApart.{coincide, listed_item, items_apart}
 use Rattle.gql_confluence.proofs.Groups.{all_rec_at, apart_at, listed, marked, good_or, is_below}
 
 module _ (f : Forest) (wf : IsWellFormed f) where
@@ -50,34 +50,10 @@ module _ (f : Forest) (wf : IsWellFormed f) where
   -- no two items stand at one place
   other_items : (xs : List Site) (a : Site) (ys : List Site) → regions ≡ xs ++ a ∷ ys → (b : Site) → In b xs → b.is_root ≡ true → a.is_root ≡ true → b.at ≡ a.at → ⊥
   other_items xs a ys e b i rb ra at =
-      let none' = apart_at coincide xs a ys (subst (λ (l : List Site). no_two coincide l ≡ true) e wf.items_apart) b i in
+      let none' = apart_at coincide xs a ys (subst (λ (l : List Site). no_two coincide l ≡ true) e (items_apart f wf)) b i in
       let paths : same_lists same_key b.at a.at ≡ true = ap (λ (p : List Key). same_lists same_key b.at p) (sym at) ∙ same_keys-refl b.at in
       let k : (b.is_root && a.is_root && same_lists same_key b.at a.at) ≡ true = rw (rb, ra, paths) refl in
       cc
-
-  -- ---- an item
-
-  numbers_least : (m n k : ℕ) → In k (numbers m n) → m ≤ k
-  numbers_least m zero k i = absurd i
-  numbers_least m (suc n) k (inl e) = omega arith
-  numbers_least m (suc n) k (inr i) = let r = numbers_least (m + 1) n k i in omega arith
-
-  item_same : (s t : Stream) (i j : ℕ) → Item s i ≡ Item t j → (s ≡ t) × (i ≡ j)
-  item_same s t i j e = (cc, cc)
-
-  item_fields : (s : Stream) (i : ℕ) (g : Group) → Item s i ≡ Fields g → ⊥
-  item_fields s i g e = cc
-
-  pub listed_item : (r : RegionResult) (st : Stream) (n : ℕ) → In (Item st n) (tasks_of r) → In st r.streams × (st.first ≤ n)
-  listed_item r st n i = by (in_cases (Item st n) (map Fields r.groups) (flat_map items_to_come r.streams) i) where
-    by : In (Item st n) (map Fields r.groups) ⊎ In (Item st n) (flat_map items_to_come r.streams) → In st r.streams × (st.first ≤ n)
-    by (inl j) = let m = in_map Fields (Item st n) r.groups j in absurd (item_fields st n m.0 m.2)
-    by (inr j) =
-        let m = in_flat items_to_come (Item st n) r.streams j in
-        let k = in_map (Item m.0) (Item st n) (numbers m.0.first (m.0.length - m.0.first)) m.2 in
-        let e = item_same st m.0 n k.0 k.2 in
-        let l = numbers_least m.0.first (m.0.length - m.0.first) k.0 k.1 in
-        (subst (λ (t : Stream). In t r.streams) (sym e.0) m.1, (let f : st.first ≡ m.0.first = ap (λ (t : Stream). t.first) e.0 in let h = e.1 in omega arith))
 
   list_mark : (n : ℕ) (o : Option Mark) → shows_list n o ≡ true → o ≡ Some (list n)
   list_mark n None e = absurd (cc)

@@ -1,3 +1,4 @@
 pub mod Confluence
+pub mod Everything
 pub mod WorkedDocuments
 pub mod WorkedPayloads

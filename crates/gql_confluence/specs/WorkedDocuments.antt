@@ -134,6 +134,14 @@ one_shared_group =
     (more (Fields name_of_both) (grown luke none)
     (more (Fields age_of_b) (grown age_20 none) none)))
 
+-- the same, but that the age fails too
+abbrev pub age_that_fails : Forest
+age_that_fails =
+    grown (waiting (labelled 3 (codes "A") None ∷ labelled 6 (codes "B") None ∷ []) (boom_of_a ∷ name_of_both ∷ age_of_b ∷ []))
+    (more (Fields boom_of_a) (grown (failed_by (bang_at 41 boom_path)) none)
+    (more (Fields name_of_both) (grown luke none)
+    (more (Fields age_of_b) (grown (failed_by (bang_at 78 (hero ++ Name (codes "age") ∷ []))) none) none)))
+
 -- ---- { hero { id ... @defer(label: "A") { boom ... @defer(label: "B") { name } } } }: A fails, and B stands in it
 
 -- the name, in B alone

@@ -93,6 +93,14 @@ b_first = first hero_1 a_and_b ∷ later [] b_entries (closing 1 [] ∷ []) true
 abbrev pub both_together : List Payload
 both_together = first hero_1 a_and_b ∷ later [] b_entries (a_failed ∷ closing 1 [] ∷ []) false ∷ []
 
+-- before the group of B alone has ended: nothing hangs on how it will end
+abbrev pub a_so_far : List Payload
+a_so_far = first hero_1 a_and_b ∷ later [] [] (a_failed ∷ []) true ∷ []
+
+-- where it fails, the shared name never comes
+abbrev pub a_and_then_b_failed : List Payload
+a_and_then_b_failed = first hero_1 a_and_b ∷ later [] [] (a_failed ∷ []) true ∷ later [] [] (closing 1 (bang_at 78 (hero ++ Name (codes "age") ∷ []) ∷ []) ∷ []) false ∷ []
+
 -- ---- a fragment in one that fails
 
 -- B is never announced

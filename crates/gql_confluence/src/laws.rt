@@ -1,14 +1,17 @@
 //! Laws of the payloads, each the contract of a function that does nothing.
 
 ghost use Rattle.std.specs.Prelude.{◌≡◌, [], ◌∷◌, true, false};
-ghost use Rattle.gql_tree.specs.WorkedForests.{streamed};
+ghost use Rattle.gql_tree.specs.WorkedForests.{late_name, streamed};
+ghost use Rattle.gql_tree.specs.FirstPayloads.{first_payloads};
 ghost use Rattle.gql_tree.specs.Payloads.{payloads};
 ghost use Rattle.gql_tree.specs.Numbering.{times, is_order, is_complete, inline_order};
 ghost use Rattle.gql_tree.specs.WellFormed.{IsWellFormed};
 ghost use Rattle.gql_tree.specs.Lawful.{IsLawful};
-ghost use Rattle.gql_confluence.specs.Confluence.{Confluence, IdsAreCompleted, CompleteOrdersAreLawful};
-ghost use Rattle.gql_confluence.specs.WorkedDocuments.{empty_fragment, empty_around_another, deferred_at_the_top, one_shared_group, inside_a_failed_one, two_that_fail, failed_item, null_item, whole_list, fragments_in_items, stream_in_a_fragment, done_at_the_start, items_backwards};
-ghost use Rattle.gql_confluence.specs.WorkedPayloads.{behind_a_failed_one_payloads, empty_fragment_payloads, empty_around_another_payloads, deferred_at_the_top_payloads, a_first, b_first, both_together, inside_a_failed_one_payloads, failed_together, failed_b_first, failed_item_payloads, null_item_payloads, from_the_last, fragments_in_items_payloads, stream_in_a_fragment_payloads};
+ghost use Rattle.gql_confluence.specs.Everything.{each_task_is_good, FailuresAreTold, AllIsDelivered, ValuesAreSame, ErrorsAreSame};
+ghost use Rattle.gql_confluence.specs.Confluence.{AreTaken, AreMerged, AreHeard, ByLawfulSchedules, IdsAreCompleted, IdsAreAnnouncedFirst, PendingsAreOfTheForest, CompleteOrdersAreLawful};
+ghost use Rattle.gql_tree.specs.Causal.{ended_after, SameSoFar, PayloadsStay, TasksAreOfThePast};
+ghost use Rattle.gql_confluence.specs.WorkedDocuments.{age_that_fails, empty_fragment, empty_around_another, deferred_at_the_top, one_shared_group, inside_a_failed_one, two_that_fail, failed_item, null_item, whole_list, fragments_in_items, stream_in_a_fragment, done_at_the_start, items_backwards};
+ghost use Rattle.gql_confluence.specs.WorkedPayloads.{a_so_far, a_and_then_b_failed, behind_a_failed_one_payloads, empty_fragment_payloads, empty_around_another_payloads, deferred_at_the_top_payloads, a_first, b_first, both_together, inside_a_failed_one_payloads, failed_together, failed_b_first, failed_item_payloads, null_item_payloads, from_the_last, fragments_in_items_payloads, stream_in_a_fragment_payloads};
 
 /// The payloads of worked documents with deferred fragments, by the order in which their tasks end.
 pub fn payloads_of_fragments()
@@ -50,10 +53,24 @@ pub fn orders_of_tasks()
     ensures twice { is_order one_shared_group (0 ∷ 0 ∷ []) ≡ false }
 {}
 
-/// Worked forests are well formed, and the times of their complete orders are lawful.
+/// The worked forests are well formed, as what execution gives is.
+pub fn worked_forests_are_well_formed()
+    ensures empty { IsWellFormed empty_fragment }
+    ensures around { IsWellFormed empty_around_another }
+    ensures top { IsWellFormed deferred_at_the_top }
+    ensures shared { IsWellFormed one_shared_group }
+    ensures inside { IsWellFormed inside_a_failed_one }
+    ensures failed { IsWellFormed two_that_fail }
+    ensures failed_item { IsWellFormed failed_item }
+    ensures behind_a_failed_one { IsWellFormed streamed }
+    ensures null_item { IsWellFormed null_item }
+    ensures whole_list { IsWellFormed whole_list }
+    ensures fragments_in_items { IsWellFormed fragments_in_items }
+    ensures stream_in_a_fragment { IsWellFormed stream_in_a_fragment }
+{}
+
+/// The times of complete orders of worked forests are lawful.
 pub fn worked_orders_are_lawful()
-    ensures shared_forest { IsWellFormed one_shared_group }
-    ensures forest_of_items { IsWellFormed fragments_in_items }
     ensures shared_0_1_2 { IsLawful one_shared_group (times one_shared_group (0 ∷ 1 ∷ 2 ∷ [])) }
     ensures shared_0_2_1 { IsLawful one_shared_group (times one_shared_group (0 ∷ 2 ∷ 1 ∷ [])) }
     ensures in_items { IsLawful fragments_in_items (times fragments_in_items (0 ∷ 1 ∷ 2 ∷ 3 ∷ 4 ∷ [])) }
@@ -68,9 +85,12 @@ pub fn schedules_that_are_not_lawful()
 {}
 
 /// A client that is sent the payloads of a well-formed forest by a lawful schedule, up to the order of members, takes
-/// each of them, and has the defined response in the end, if its value can exist.
+/// each of them, and has the defined response in the end, if its value can exist. Where the payloads can exist, there is
+/// such a client. Ids are written in decimal, so there have to be fewer than 2 ^ 64 of them.
 pub fn payloads_are_merged()
-    ensures { Confluence }
+    ensures taken { ByLawfulSchedules AreTaken }
+    ensures merged { ByLawfulSchedules AreMerged }
+    ensures there { ByLawfulSchedules AreHeard }
 {}
 
 /// By a lawful schedule each announced id stands in one pending and in one completed record, the latter in no earlier
@@ -79,7 +99,55 @@ pub fn ids_are_completed()
     ensures { IdsAreCompleted }
 {}
 
+/// No failure is told of a well-formed forest exactly where each group and each item in it reached its beginning with a
+/// value; and then all of it is delivered. So a response without failures is that of one piece, plain execution's say,
+/// where the piece has all of the forest in it: it has the same value, and the same errors at places that stand.
+pub fn responses_without_failures_have_all()
+    ensures told { FailuresAreTold }
+    ensures delivered { AllIsDelivered }
+    ensures value { ValuesAreSame }
+    ensures errors { ErrorsAreSame }
+    ensures none_failed { each_task_is_good null_item ≡ true }
+    ensures a_group_failed { each_task_is_good two_that_fail ≡ false }
+    ensures an_item_failed { each_task_is_good failed_item ≡ false }
+{}
+
+/// No payload goes on with an id or ends one that isn't announced in it or in an earlier payload, and each announced id is
+/// that of a fragment or a stream of the forest that is to be announced: what isn't has no id.
+pub fn ids_are_announced()
+    ensures first { IdsAreAnnouncedFirst }
+    ensures of_the_forest { PendingsAreOfTheForest }
+{}
+
 /// The times of a complete order of a well-formed forest are lawful.
 pub fn complete_orders_are_lawful()
     ensures { CompleteOrdersAreLawful }
+{}
+
+/// The payloads after some events of a complete order are the first ones after all of them, `hasNext` included: what was
+/// sent stays, whatever ends later, and each later event adds at most one payload.
+pub fn payloads_stay()
+    ensures { PayloadsStay }
+{}
+
+/// What has ended after some events, the times, and the numbers of the tasks are determined by the regions that have ended:
+/// they are those of each forest that is the same so far.
+pub fn tasks_are_of_the_past()
+    ensures { TasksAreOfThePast }
+{}
+
+/// The first payloads, as they are defined for one group after another, are those of the inline order where a group stands
+/// at the object of its fragment, and aren't where it stands below it: there the payloads have a path from the one to the other.
+pub fn worked_first_payloads()
+    ensures at_its_fragment { payloads late_name (times late_name (inline_order late_name)) ≡ first_payloads late_name }
+    ensures below_its_fragment { payloads deferred_at_the_top (times deferred_at_the_top (inline_order deferred_at_the_top)) ≡ first_payloads deferred_at_the_top → ⊥ }
+{}
+
+/// Two forests that are the same as far as two of three tasks have ended: the payloads so far are the same, those behind
+/// them aren't.
+pub fn worked_payloads_so_far()
+    ensures same { SameSoFar (ended_after one_shared_group (0 ∷ 1 ∷ [])) one_shared_group age_that_fails }
+    ensures so_far { payloads one_shared_group (times one_shared_group (0 ∷ 1 ∷ [])) ≡ a_so_far }
+    ensures so_far_too { payloads age_that_fails (times age_that_fails (0 ∷ 1 ∷ [])) ≡ a_so_far }
+    ensures in_the_end { payloads age_that_fails (times age_that_fails (0 ∷ 1 ∷ 2 ∷ [])) ≡ a_and_then_b_failed }
 {}

@@ -37,7 +37,7 @@ use Rattle.gql_tool.specs.hero.Shape.{deferred_leaves_of}
 use Rattle.gql_tool.specs.hero.Operation.{name_of, nodes_of}
 use Rattle.gql_tool.specs.hero.Service.{service, query}
 use Rattle.gql_tool.specs.hero.Hero.{hero_path, hero_object, is_required, cell_under, cell_part, leaf_path, leaf_part, leaf_member, leaf_members, leaf_faults, some_bubble, EachOnce, RefStands}
-use Rattle.gql_tool.proofs.hero_lemmas.Kept.{ordered-filter}
+use Rattle.gql_model.proofs.Kept.{kept-ordered, kept-same}
 use Rattle.gql_tool.proofs.hero_lemmas.Fields.{leaf_details, append-nil}
 use Rattle.gql_tool.proofs.hero_lemmas.Met.{document, fragment_id}
 use Rattle.gql_tool.proofs.hero_lemmas.Region.{person}
@@ -62,17 +62,6 @@ faults-append : (p : Person) (ls ms : List Leaf) → leaf_faults p (ls ++ ms) �
 faults-append p ls ms = ap (flat_map (λ (x : Done). x.faults)) (map-append (leaf_part p) ls ms) ∙ flat_map-append (λ (x : Done). x.faults) (map (leaf_part p) ls) (map (leaf_part p) ms)
 
 -- ---- errors
-
-kept-ordered : (value : Value) (fs : List Fault) → kept value (ordered fault_cmp fs) ≡ kept value fs
-kept-ordered value fs = ordered-filter fault_cmp faults_total (λ (f : Fault). has_place value f.path) fs
-
--- the same values keep the same errors
-has_place-same : (value w : Value) (o : Option Path) → SameFlat value w → has_place value o ≡ has_place w o
-has_place-same value w None same = refl
-has_place-same value w (Some path) same = ap is_some (same path.keys)
-
-kept-same : (value w : Value) (fs : List Fault) → SameFlat value w → kept value fs ≡ kept w fs
-kept-same value w fs same = ap (ordered fault_cmp) (filter_agree (λ (f : Fault). has_place value f.path) (λ f. has_place w f.path) (λ f. has_place-same value w f.path same) fs)
 
 -- a leaf's place doesn't stand
 abbrev NoLeaf : Value → Type 0
@@ -153,7 +142,7 @@ module _ (t : HeroTables) (spot hero : Spot) (leaves : List Leaf) (n : ℕ) (p :
 
   module _ (value : Value) (faults : List Fault) where
     kept-errors : (fs : List Fault) → faults ≡ ordered fault_cmp fs → kept value faults ≡ kept value fs
-    kept-errors fs is = ap (kept value) is ∙ kept-ordered value fs
+    kept-errors fs is = ap (kept value) is ∙ kept-ordered faults_total value fs
 
     bubbled : (ms : List Leaf) → some_bubble p leaves ≡ true → Marks value (of_parts (first_part true ∷ []) []) → Errors faults (first_part true ∷ []) → IsWhole value faults (leaves ++ ms)
     bubbled ms e marks errors =
@@ -202,7 +191,7 @@ alone_plain f r fs value faults is same merged =
     let alone = subst (λ (g : Forest). IsMerged g value faults []) is merged in
     subst (IsOfRegion value faults) (sym same) (
       one_same value (hero_object v.Null) fs [] alone.marks,
-      ap (kept value) alone.errors ∙ (kept-ordered value (fs ++ []) ∙ ap (kept value) (append-nil fs)),
+      ap (kept value) alone.errors ∙ (kept-ordered faults_total value (fs ++ []) ∙ ap (kept value) (append-nil fs)),
     )
 
 plain_cell : (t : HeroTables) (d : HeroDocument) (c : HeroCell) → t.hero ≡ c → EachOnce d → RefStands t → (value : Value) (faults : List Fault) → IsMerged (forest (service t) (nodes_of d) query) value faults [] → IsOfRegion value faults (plain (service t) (nodes_of d) query)

@@ -1,12 +1,5 @@
 use Rattle.std.proofs.Common.{refl}
-use Rattle.gql_confluence.proofs.WorkedDocuments.{one_shared_group_well_formed, fragments_in_items_well_formed}
 use Rattle.gql_confluence.proofs.laws.worked_orders_are_lawful.Goals as goal
-
-pub returns-clause-shared_forest : goal.returns-clause-shared_forest
-returns-clause-shared_forest c = one_shared_group_well_formed
-
-pub returns-clause-forest_of_items : goal.returns-clause-forest_of_items
-returns-clause-forest_of_items c = fragments_in_items_well_formed
 
 pub returns-clause-shared_0_1_2 : goal.returns-clause-shared_0_1_2
 returns-clause-shared_0_1_2 c = record { done = refl; items = refl }
