@@ -1,12 +1,13 @@
 #!/usr/bin/env bash
-# Times the parser on documents of 1 KB to 1 MB of four kinds: flat (one field behind another), deep (100 braces, again
-# and again), fragments (many definitions) and strings (long arguments). The program gql_bench parses each document again
-# and again in one process, so its start and the reading of the file are subtracted; cold is the first time in a process,
-# less what a document of one field takes. Beside it stand graphql-core's parse, GraphQL.js's and that of Go's gqlparser
-# of the same text, warm: the best of several in one process. Of GraphQL.js it is the better of node's own settings and a
-# large young generation, of the program the better of the allocator's own settings and ones by which it keeps what was
-# freed. Each of the others is skipped where it isn't installed. Memory is the most that the process holds while it parses
-# the document, less that for a document of one field. The gate doesn't run it.
+# Times the parser on documents of 1 KB to 1 MB of four kinds: flat (one field behind another), deep (100 braces,
+# again and again), fragments (many definitions) and strings (long arguments). The program gql_bench parses each
+# document again and again in one process, so its start and the reading of the file are subtracted; cold is the first
+# time in a process, less what a document of one field takes. Beside it stand a parser written by hand in Rust without
+# proofs (rust_tree), graphql-core's, GraphQL.js's and that of Go's gqlparser on the same text, warm: the best of
+# several in one process. Of GraphQL.js it is the better of node's own settings and a large young generation, of the
+# program the better of the allocator's own settings and ones by which it keeps what was freed. Each of the others is
+# skipped where it isn't installed. Memory is the most that the process holds while it parses the document, less that
+# for a document of one field. The gate doesn't run it.
 set -euo pipefail
 top=$(cd "$(dirname "$0")/.." && pwd)
 program=$top/crates/gql_bench/out/gql_bench
@@ -105,19 +106,28 @@ gqlparser() {
     "$work/gqlparser" "$1" 2> /dev/null || echo -
 }
 
+# the parser by hand, built with rustc
+rust_tree() {
+    [ -x "$work/rust_tree" ] || { echo -; return; }
+    "$work/rust_tree" "$1" 2> /dev/null || echo -
+}
+
+if command -v rustc > /dev/null; then
+    rustc --edition 2021 -C opt-level=3 -o "$work/rust_tree" "$top/bench/rust_tree/main.rs" > /dev/null 2>&1 || true
+fi
 if command -v go > /dev/null; then
     (cd "$top/bench/gqlparser" && GOFLAGS=-mod=mod GOPROXY=off GOCACHE=$work/cache go build -o "$work/gqlparser" . > /dev/null 2>&1) || true
 fi
 printf '{a}' > "$work/least"
-echo "kind bytes microseconds MB/s cold-MB/s memory/byte graphql-core gqlparser GraphQL.js times"
+echo "kind bytes microseconds MB/s cold-MB/s memory/byte rust graphql-core gqlparser GraphQL.js times"
 for kind in flat deep fragments strings; do
     for size in 1000 10000 100000 1000000; do
         document "$kind" "$size" > "$work/document"
         bytes=$(wc -c < "$work/document")
-        awk -v k="$kind" -v b="$bytes" -v m="$(measure "$work/document" "$work/least")" -v c="$(core "$work/document")" -v g="$(gqlparser "$work/document")" \
+        awk -v k="$kind" -v b="$bytes" -v m="$(measure "$work/document" "$work/least")" -v t="$(rust_tree "$work/document")" -v c="$(core "$work/document")" -v g="$(gqlparser "$work/document")" \
             -v p="$(javascript "$work/document")" -v y="$(javascript "$work/document" --single-threaded --max-semi-space-size=256)" \
             'BEGIN { split(m, a, " "); j = (p + 0 > y + 0 ? p : y); r = b / a[1] * 1e3;
-                printf "%s %d %.1f %.1f %s %s %s %s %s %s\n", k, b, a[1] / 1e3, r, (a[2] > 200000 ? sprintf("%.1f", b / a[2] * 1e3) : "-"),
-                    (a[3] > 0 ? sprintf("%.1f", a[3] / b) : "-"), c, g, (j + 0 > 0 ? j : "-"), (j + 0 > 0 ? sprintf("%.1f", r / j) : "-") }'
+                printf "%s %d %.1f %.1f %s %s %s %s %s %s %s\n", k, b, a[1] / 1e3, r, (a[2] > 200000 ? sprintf("%.1f", b / a[2] * 1e3) : "-"),
+                    (a[3] > 0 ? sprintf("%.1f", a[3] / b) : "-"), t, c, g, (j + 0 > 0 ? j : "-"), (j + 0 > 0 ? sprintf("%.1f", r / j) : "-") }'
     done
 done
