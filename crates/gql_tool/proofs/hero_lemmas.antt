@@ -6,7 +6,6 @@ pub mod Forests
 pub mod Gives
 pub mod Groups
 pub mod Ids
-pub mod Kept
 pub mod Leaf
 pub mod Merged
 pub mod Met
