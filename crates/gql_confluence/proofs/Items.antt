@@ -350,7 +350,7 @@ module _ (st : Stream) where
     facts_of r bs h i e same x j = facts st.first (st.length - st.first) bs (ap ours e ∙ works_are st.path.keys st refl r h i) (λ y z. subst (λ (l : List ItemRun). In y (items_of_stream l st)) same z) x j
 
   -- the items of a stream begin with the first, and there is one
-  runs_from : (n k : ℕ) (bs : Branches) → ours (works_of bs) ≡ map (Item st) (numbers n k) → (y : ItemRun) → In y (items_of_stream (items_run bs) st) → n ≤ y.index
+  pub runs_from : (n k : ℕ) (bs : Branches) → ours (works_of bs) ≡ map (Item st) (numbers n k) → (y : ItemRun) → In y (items_of_stream (items_run bs) st) → n ≤ y.index
   runs_from n k none h y i = absurd i
   runs_from n k (more (Fields g) f bs) h y i = runs_from n k bs h y i
   runs_from n k (more (Item su m) (grown r inner) bs) h y i = by (same_lists same_key su.path.keys st.path.keys) h i (λ n' k' e j. runs_from n' k' bs e y j) where

@@ -23,7 +23,7 @@ work_itself : (w : TaskWork) → is_eq (work_cmp w w) ≡ true
 work_itself (Fields g) = ap (λ o. is_eq (ordering_then o (slice_cmp nat_cmp (map (λ (f : FragId). f.place) g.owners) (map (λ (f : FragId). f.place) g.owners)))) (tied_itself path_total g.path.keys) ∙ ap is_eq (tied_itself nat_list_cmp_total (map (λ (f : FragId). f.place) g.owners))
 work_itself (Item s i) = ap (λ o. is_eq (ordering_then o (nat_cmp i i))) (tied_itself path_total s.path.keys) ∙ ap is_eq (tied_itself nat_cmp_total i)
 
-found : (ended : List TaskWork) (w : TaskWork) → In w ended → has_ended ended w ≡ true
+pub found : (ended : List TaskWork) (w : TaskWork) → In w ended → has_ended ended w ≡ true
 found ended w i = to_any (λ v. is_eq (work_cmp v w)) ended w i (work_itself w)
 
 module _ (ended : List TaskWork) where

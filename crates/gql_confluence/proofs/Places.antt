@@ -125,7 +125,7 @@ module _ (p : Schedule) where
       record { place = w.place; is_place = inr (in_right w.place _ (places_below s around begun rel items bs) w.is_place); arises = w.arises; of_scope = w.of_scope; when = w.when }
 
 -- ---- each region, fragment and stream stands in one place
-same_numbers-refl : (ns : List ℕ) → same_lists (λ i j. i == j) ns ns ≡ true
+pub same_numbers-refl : (ns : List ℕ) → same_lists (λ i j. i == j) ns ns ≡ true
 same_numbers-refl [] = refl
 same_numbers-refl (n ∷ ns) = let e : (n == n) ≡ true = (Decides-eqb n n).1 refl in rw (e, same_numbers-refl ns) refl
 

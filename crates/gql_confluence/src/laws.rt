@@ -8,7 +8,7 @@ ghost use Rattle.gql_tree.specs.Numbering.{times, is_order, is_complete, inline_
 ghost use Rattle.gql_tree.specs.WellFormed.{IsWellFormed};
 ghost use Rattle.gql_tree.specs.Lawful.{IsLawful};
 ghost use Rattle.gql_confluence.specs.Everything.{each_task_is_good, FailuresAreTold, AllIsDelivered, ValuesAreSame, ErrorsAreSame};
-ghost use Rattle.gql_confluence.specs.Confluence.{AreTaken, AreMerged, AreHeard, ByLawfulSchedules, IdsAreCompleted, IdsAreAnnouncedFirst, PendingsAreOfTheForest, CompleteOrdersAreLawful};
+ghost use Rattle.gql_confluence.specs.Confluence.{AreTaken, AreMerged, AreHeard, ByLawfulSchedules, IdsAreCompleted, IdsAreAnnouncedFirst, PendingsAreOfTheForest, CompleteOrdersAreLawful, PayloadsAreOfThePast};
 ghost use Rattle.gql_tree.specs.Causal.{ended_after, SameSoFar, PayloadsStay, TasksAreOfThePast};
 ghost use Rattle.gql_confluence.specs.WorkedDocuments.{age_that_fails, empty_fragment, empty_around_another, deferred_at_the_top, one_shared_group, inside_a_failed_one, two_that_fail, failed_item, null_item, whole_list, fragments_in_items, stream_in_a_fragment, done_at_the_start, items_backwards};
 ghost use Rattle.gql_confluence.specs.WorkedPayloads.{a_so_far, a_and_then_b_failed, behind_a_failed_one_payloads, empty_fragment_payloads, empty_around_another_payloads, deferred_at_the_top_payloads, a_first, b_first, both_together, inside_a_failed_one_payloads, failed_together, failed_b_first, failed_item_payloads, null_item_payloads, from_the_last, fragments_in_items_payloads, stream_in_a_fragment_payloads};
@@ -134,6 +134,12 @@ pub fn payloads_stay()
 /// they are those of each forest that is the same so far.
 pub fn tasks_are_of_the_past()
     ensures { TasksAreOfThePast }
+{}
+
+/// The payloads after some events are determined by the regions that have ended: they are those of each well-formed
+/// forest that is the same so far, `hasNext` included. What is published as tasks end rests on nothing that is still to come.
+pub fn payloads_are_of_the_past()
+    ensures { PayloadsAreOfThePast }
 {}
 
 /// The first payloads, as they are defined for one group after another, are those of the inline order where a group stands
