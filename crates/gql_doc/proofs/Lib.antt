@@ -7,6 +7,8 @@ pub mod PlainFields
 pub mod Sets
 pub mod Predictive
 pub mod Productions
+pub mod TypeProductions
+pub mod Languages
 pub mod Quoting
 pub mod Pieces
 pub mod QuotedFront

@@ -151,7 +151,7 @@ returns-predictive {A} {room} value = record {
 
 -- ---- one token
 
-take_by : (test : Lexeme → Bool) (token : Lexeme) (tokens : List Lexeme) (b : Bool) → test token ≡ b → take test (token ∷ tokens) ≡ (elim b [ true ↦ Ok (token, tokens) | false ↦ Err (stop.Unexpected, token ∷ tokens) ])
+pub take_by : (test : Lexeme → Bool) (token : Lexeme) (tokens : List Lexeme) (b : Bool) → test token ≡ b → take test (token ∷ tokens) ≡ (elim b [ true ↦ Ok (token, tokens) | false ↦ Err (stop.Unexpected, token ∷ tokens) ])
 take_by test token tokens true e = rw e refl
 take_by test token tokens false e = rw e refl
 
@@ -260,7 +260,7 @@ bind_found {n = n} {m = m} {k = k} first second tokens rest b (Ok x) e h =
 bind_found first second tokens rest b (Err y) e h = absurd cc
 
 -- what some phrase begins with goes on as the whole does
-begun_first : {A B : Type 0} {p : Phrase A} {f : A → Phrase B} (tokens : List Lexeme) → Begun p tokens → ((a : A) → Begun (f a) []) → Begun (phrase.◌>>=◌ p f) tokens
+pub begun_first : {A B : Type 0} {p : Phrase A} {f : A → Phrase B} (tokens : List Lexeme) → Begun p tokens → ((a : A) → Begun (f a) []) → Begun (phrase.◌>>=◌ p f) tokens
 begun_first tokens one two = record {
   more = one.more ++ (two one.value).more;
   value = (two one.value).value;
@@ -429,7 +429,7 @@ pick_no test r s tokens e = pick_by test r s tokens false e
 begun_left : {A : Type 0} (p q : Phrase A) (tokens : List Lexeme) → Begun p tokens → Begun (either p q) tokens
 begun_left p q tokens b = record { more = b.more; value = b.value; is = inl b.is }
 
-begun_right : {A : Type 0} (p q : Phrase A) (tokens : List Lexeme) → Begun q tokens → Begun (either p q) tokens
+pub begun_right : {A : Type 0} (p q : Phrase A) (tokens : List Lexeme) → Begun q tokens → Begun (either p q) tokens
 begun_right p q tokens b = record { more = b.more; value = b.value; is = inr b.is }
 
 -- what some phrase of the one goes on with, some phrase of the other does
@@ -639,10 +639,10 @@ many_more p tokens vs h =
 many_none : {A : Type 0} (p : Phrase A) (tokens : List Lexeme) (vs : List A) → tokens ≡ [] → vs ≡ [] → phrase.many p tokens vs
 many_none p tokens vs e f = subst (phrase.many p tokens) (sym f) e
 
-many_begun : {A : Type 0} (p : Phrase A) → Begun (phrase.many p) []
+pub many_begun : {A : Type 0} (p : Phrase A) → Begun (phrase.many p) []
 many_begun p = record { more = []; value = []; is = refl }
 
-more_begun : {A : Type 0} (p : Phrase A) (a : A) → Begun (more_of p a) []
+pub more_begun : {A : Type 0} (p : Phrase A) (a : A) → Begun (more_of p a) []
 more_begun p a = begun_first [] (many_begun p) (λ vs. record { more = []; value = a ∷ vs; is = (refl, refl) })
 
 gives_found : {A : Type 0} {n : ℕ} (a : A) (tokens rest : List Lexeme) (value : A) → gives a tokens ≡ Ok (value, rest) → Found n n (returns a) tokens value rest

@@ -13,7 +13,7 @@ use Rattle.gql_doc.specs.Grammar as grammar
 use Rattle.gql_doc.specs.inner.Reading.{Reader, gives, next_is, take, pick, shut}
 use Rattle.gql_doc.specs.inner.Reading as reading
 use Rattle.gql_doc.specs.StringValue.{string_value}
-use Rattle.gql_doc.specs.Terminals.{is_punctuator, is_name, is_number, is_string, is_word, is_fragment_name, is_operation_type, is_opening, is_closing}
+use Rattle.gql_doc.specs.Terminals.{is_punctuator, is_name, is_number, is_string, is_word, is_fragment_name, is_enum_value, is_operation_type, is_opening, is_closing}
 use Rattle.gql_doc.specs.Nesting.{room_behind}
 use Rattle.gql_doc.specs.declared.parser.Stop.TheVariants as stop
 use Rattle.gql_doc.proofs.Sets.{Set, no_tokens, this, names, numbers, strings, all_tokens, union, only_if, has, disjoint, disjoint-has, has-union, or_left, or_right, is_punctuator-has, is_name-has, is_number-has, is_string-has}
@@ -33,7 +33,7 @@ use Rattle.gql_model.specs.declared.syntax.Document.{Document}
 -- ---- single tokens
 
 -- a token for each class
-a_token : TokenKind → List ℕ → Lexeme
+pub a_token : TokenKind → List ℕ → Lexeme
 a_token k text = record { kind = k; text = text; start = 0; spot = record { line = 0; column = 0 } }
 
 opening : Set
@@ -49,7 +49,7 @@ behind_plain : (n : ℕ) (t : Lexeme) (a b : Bool) → is_opening t ≡ a → is
 behind_plain n t a b opens closes e f = rw (opens, closes, e, f) refl
 
 -- tokens of a set with no braces and brackets leave the room as it is
-level_plain : (F : Set) (n : ℕ) → disjoint F (union (this (codes "[")) (this (codes "{"))) ≡ true → disjoint F (union (this (codes "]")) (this (codes "}"))) ≡ true → (t : Lexeme) → has F t ≡ true → room_behind n t ≡ Some n
+pub level_plain : (F : Set) (n : ℕ) → disjoint F (union (this (codes "[")) (this (codes "{"))) ≡ true → disjoint F (union (this (codes "]")) (this (codes "}"))) ≡ true → (t : Lexeme) → has F t ≡ true → room_behind n t ≡ Some n
 level_plain F n one two t h = behind_plain n t _ _ refl refl
     (two_punctuators (codes "[") (codes "{") t ∙ disjoint-has F (union (this (codes "[")) (this (codes "{"))) t one h)
     (two_punctuators (codes "]") (codes "}") t ∙ disjoint-has F (union (this (codes "]")) (this (codes "}"))) t two h)
@@ -62,22 +62,22 @@ level_closes F n one t h e =
     let no = two_punctuators (codes "[") (codes "{") t ∙ disjoint-has F (union (this (codes "[")) (this (codes "{"))) t one h in
     rw (no, e) refl
 
-punctuator_example : (text : List ℕ) → is_punctuator text (a_token kind.Punctuator text) ≡ true
+pub punctuator_example : (text : List ℕ) → is_punctuator text (a_token kind.Punctuator text) ≡ true
 unfolding a_token
 punctuator_example text = (bytes_eq-Decides text text).1 refl
 
 -- a punctuator that is no brace or bracket
-punctuator-predictive : {n : ℕ} (text : List ℕ) → disjoint (this text) (union (this (codes "[")) (this (codes "{"))) ≡ true → disjoint (this text) (union (this (codes "]")) (this (codes "}"))) ≡ true
+pub punctuator-predictive : {n : ℕ} (text : List ℕ) → disjoint (this text) (union (this (codes "[")) (this (codes "{"))) ≡ true → disjoint (this text) (union (this (codes "]")) (this (codes "}"))) ≡ true
     → Predictive n n (grammar.punctuator text) (grammar.punctuator text) (reading.punctuator text) (this text) no_tokens false
 punctuator-predictive {n = n} text one two = token-predictive (is_punctuator text) (this text) (a_token kind.Punctuator text) (punctuator_example text)
     (λ t h. sym (is_punctuator-has text t) ∙ h) (λ t h. level_plain (this text) n one two t (sym (is_punctuator-has text t) ∙ h))
 
-opens-predictive : {n : ℕ} (text : List ℕ) → ((t : Lexeme) → is_punctuator text t ≡ true → is_opening t ≡ true)
+pub opens-predictive : {n : ℕ} (text : List ℕ) → ((t : Lexeme) → is_punctuator text t ≡ true → is_opening t ≡ true)
     → Predictive (suc n) n (grammar.punctuator text) (grammar.punctuator text) (reading.punctuator text) (this text) no_tokens false
 opens-predictive {n = n} text opens = token-predictive (is_punctuator text) (this text) (a_token kind.Punctuator text) (punctuator_example text)
     (λ t h. sym (is_punctuator-has text t) ∙ h) (λ t h. level_opens n t (opens t h))
 
-closes-predictive : {n : ℕ} (text : List ℕ) → disjoint (this text) (union (this (codes "[")) (this (codes "{"))) ≡ true → ((t : Lexeme) → is_punctuator text t ≡ true → is_closing t ≡ true)
+pub closes-predictive : {n : ℕ} (text : List ℕ) → disjoint (this text) (union (this (codes "[")) (this (codes "{"))) ≡ true → ((t : Lexeme) → is_punctuator text t ≡ true → is_closing t ≡ true)
     → Predictive n (suc n) (grammar.punctuator text) (grammar.punctuator text) (reading.punctuator text) (this text) no_tokens false
 closes-predictive {n = n} text one closes = token-predictive (is_punctuator text) (this text) (a_token kind.Punctuator text) (punctuator_example text)
     (λ t h. sym (is_punctuator-has text t) ∙ h) (λ t h. level_closes (this text) n one t (sym (is_punctuator-has text t) ∙ h) (closes t h))
@@ -85,34 +85,34 @@ closes-predictive {n = n} text one closes = token-predictive (is_punctuator text
 bracket_opens : (t : Lexeme) → is_punctuator (codes "[") t ≡ true → is_opening t ≡ true
 bracket_opens t h = or_left (is_punctuator (codes "[") t) (is_punctuator (codes "{") t) h
 
-brace_opens : (t : Lexeme) → is_punctuator (codes "{") t ≡ true → is_opening t ≡ true
+pub brace_opens : (t : Lexeme) → is_punctuator (codes "{") t ≡ true → is_opening t ≡ true
 brace_opens t h = or_right (is_punctuator (codes "[") t) (is_punctuator (codes "{") t) h
 
 bracket_closes : (t : Lexeme) → is_punctuator (codes "]") t ≡ true → is_closing t ≡ true
 bracket_closes t h = or_left (is_punctuator (codes "]") t) (is_punctuator (codes "}") t) h
 
-brace_closes : (t : Lexeme) → is_punctuator (codes "}") t ≡ true → is_closing t ≡ true
+pub brace_closes : (t : Lexeme) → is_punctuator (codes "}") t ≡ true → is_closing t ≡ true
 brace_closes t h = or_right (is_punctuator (codes "]") t) (is_punctuator (codes "}") t) h
 
-name-predictive : {n : ℕ} → Predictive n n grammar.name grammar.name reading.name names no_tokens false
+pub name-predictive : {n : ℕ} → Predictive n n grammar.name grammar.name reading.name names no_tokens false
 unfolding a_token
 name-predictive {n = n} = token-predictive is_name names (a_token kind.Name (codes "a")) refl (λ t h. sym (is_name-has t) ∙ h) (λ t h. level_plain names n refl refl t (sym (is_name-has t) ∙ h))
 
-and_first : (a b : Bool) → (a && b) ≡ true → a ≡ true
+pub and_first : (a b : Bool) → (a && b) ≡ true → a ≡ true
 and_first true b h = refl
 and_first false b h = h
 
 -- a test that only names pass
-word-predictive : {n : ℕ} (test : Lexeme → Bool) (example : Lexeme) → test example ≡ true → ((t : Lexeme) → test t ≡ true → is_name t ≡ true) → Predictive n n (token test) (token test) (take test) names no_tokens false
+pub word-predictive : {n : ℕ} (test : Lexeme → Bool) (example : Lexeme) → test example ≡ true → ((t : Lexeme) → test t ≡ true → is_name t ≡ true) → Predictive n n (token test) (token test) (take test) names no_tokens false
 word-predictive {n = n} test example passes only = token-predictive test names example passes (λ t h. sym (is_name-has t) ∙ only t h) (λ t h. level_plain names n refl refl t (sym (is_name-has t) ∙ only t h))
 
-word_is_name : (word : List ℕ) (t : Lexeme) → is_word word t ≡ true → is_name t ≡ true
+pub word_is_name : (word : List ℕ) (t : Lexeme) → is_word word t ≡ true → is_name t ≡ true
 word_is_name word t h = and_first (is_name t) _ h
 
 fragment_name_is_name : (t : Lexeme) → is_fragment_name t ≡ true → is_name t ≡ true
 fragment_name_is_name t h = and_first (is_name t) _ h
 
-type_is_name : (t : Lexeme) → is_operation_type t ≡ true → is_name t ≡ true
+pub type_is_name : (t : Lexeme) → is_operation_type t ≡ true → is_name t ≡ true
 type_is_name t h = by (is_name t) refl h
   where
     by : (b : Bool) → is_name t ≡ b → is_operation_type t ≡ true → is_name t ≡ true
@@ -121,7 +121,7 @@ type_is_name t h = by (is_name t) refl h
 
 -- ---- what stands between two punctuators
 
-between-predictive : {A : Type 0} {a b c d : ℕ} {p q : Phrase A} {r : Reader A} {F N : Set} (e : Bool) (first last : List ℕ)
+pub between-predictive : {A : Type 0} {a b c d : ℕ} {p q : Phrase A} {r : Reader A} {F N : Set} (e : Bool) (first last : List ℕ)
     → Predictive a b (grammar.punctuator first) (grammar.punctuator first) (reading.punctuator first) (this first) no_tokens false
     → Predictive b c p q r F N e
     → Predictive c d (grammar.punctuator last) (grammar.punctuator last) (reading.punctuator last) (this last) no_tokens false
@@ -142,7 +142,7 @@ number-predictive : {n : ℕ} → Predictive n n (token is_number) (token is_num
 unfolding a_token
 number-predictive {n = n} = token-predictive is_number numbers (a_token kind.Int (codes "1")) refl (λ t h. sym (is_number-has t) ∙ h) (λ t h. level_plain numbers n refl refl t (sym (is_number-has t) ∙ h))
 
-string-predictive : {n : ℕ} → Predictive n n (token is_string) (token is_string) (take is_string) strings no_tokens false
+pub string-predictive : {n : ℕ} → Predictive n n (token is_string) (token is_string) (take is_string) strings no_tokens false
 unfolding a_token
 string-predictive {n = n} = token-predictive is_string strings (a_token kind.Quoted (codes "")) refl (λ t h. sym (is_string-has t) ∙ h) (λ t h. level_plain strings n refl refl t (sym (is_string-has t) ∙ h))
 
@@ -226,7 +226,7 @@ abbrev behind_first : {A : Type 0} → Phrase A → List ℕ → Lexeme → Phra
 behind_first p last first = phrase.◌>>=◌ p (λ value. phrase.◌>>◌ (grammar.punctuator last) (returns (first.spot, value)))
 
 -- what begins with what stands between two punctuators begins with the first
-between_first : {A B : Type 0} (first last : List ℕ) (p : Phrase A) (f : Spot × A → Phrase B) (t : Lexeme) (tokens : List Lexeme) (b : B) → phrase.◌>>=◌ (grammar.between first p last) f (t ∷ tokens) b → is_punctuator first t ≡ true
+pub between_first : {A B : Type 0} (first last : List ℕ) (p : Phrase A) (f : Spot × A → Phrase B) (t : Lexeme) (tokens : List Lexeme) (b : B) → phrase.◌>>=◌ (grammar.between first p last) f (t ∷ tokens) b → is_punctuator first t ≡ true
 between_first first last p f t tokens b h = by h.1.front h.1.whole h.1.front_is
   where
     by : (front : List Lexeme) → t ∷ tokens ≡ front ++ h.1.back → grammar.between first p last front h.0 → is_punctuator first t ≡ true
@@ -237,7 +237,7 @@ nil_first : {A : Type 0} (u v : List A) → [] ≡ u ++ v → u ≡ []
 nil_first [] v h = refl
 nil_first (x ∷ u) v h = absurd cc
 
-between_empty : {A B : Type 0} (first last : List ℕ) (p : Phrase A) (f : Spot × A → Phrase B) (b : B) → phrase.◌>>=◌ (grammar.between first p last) f [] b → ⊥
+pub between_empty : {A B : Type 0} (first last : List ℕ) (p : Phrase A) (f : Spot × A → Phrase B) (b : B) → phrase.◌>>=◌ (grammar.between first p last) f [] b → ⊥
 between_empty first last p f b h = token_empty (is_punctuator first) (behind_first p last) h.0 (subst (λ w. grammar.between first p last w h.0) (nil_first h.1.front h.1.back h.1.whole) h.1.front_is)
 
 -- ---- list and object values
@@ -311,7 +311,7 @@ between_whole first last p t inside value opens is =
     )
 
 -- what is made of it, behind the first punctuator
-between_begun : {A B : Type 0} (first last : List ℕ) (p : Phrase A) (make : Spot × A → B) (t : Lexeme) (inside : List Lexeme) (value : A) → is_punctuator first t ≡ true → p inside value
+pub between_begun : {A B : Type 0} (first last : List ℕ) (p : Phrase A) (make : Spot × A → B) (t : Lexeme) (inside : List Lexeme) (value : A) → is_punctuator first t ≡ true → p inside value
     → Begun (phrase.◌>>=◌ (grammar.between first p last) (λ x. returns (make x))) (t ∷ [])
 between_begun first last p make t inside value opens is =
     let rest = inside ++ a_token kind.Punctuator last ∷ [] in
@@ -392,15 +392,15 @@ value-predictive constant n k = value_from constant n k (nested-predictive const
 
 -- the punctuators of these texts
 abbrev these : List (List ℕ) → Set
-these texts = record { punctuators = texts; names = false; numbers = false; strings = false; all = false }
+these texts = record { punctuators = texts; words = []; names = false; numbers = false; strings = false; all = false }
 
 -- a phrase or nothing, where the next token tells
-listed-predictive : {A : Type 0} {n : ℕ} {p q : Phrase (List A)} {r : Reader (List A)} (text : List ℕ)
+pub listed-predictive : {A : Type 0} {n : ℕ} {p q : Phrase (List A)} {r : Reader (List A)} (text : List ℕ)
     → Predictive n n p q r (this text) no_tokens false
     → Predictive n n (phrase.listed p) (phrase.listed q) (reading.listed (is_punctuator text) r) (this text) (this text) true
 listed-predictive text one = pick_first-predictive (is_punctuator text) (is_punctuator-has text) one (returns-predictive []) refl
 
-optional-predictive : {A : Type 0} {n : ℕ} {p q : Phrase A} {r : Reader A} (text : List ℕ)
+pub optional-predictive : {A : Type 0} {n : ℕ} {p q : Phrase A} {r : Reader A} (text : List ℕ)
     → Predictive n n p q r (this text) no_tokens false
     → Predictive n n (phrase.optional p) (phrase.optional q) (reading.optional (is_punctuator text) r) (this text) (this text) true
 optional-predictive text one = pick_first-predictive (is_punctuator text) (is_punctuator-has text) (bind-predictive one (λ a. returns-predictive (Some a)) refl) (returns-predictive None) refl
@@ -419,16 +419,16 @@ directive-predictive constant n k =
     bind-predictive (punctuator-predictive (codes "@") refl refl) (λ at. bind-predictive name-predictive (λ word. bind-predictive (arguments-predictive constant n k) (λ given.
     returns-predictive (record { name = word.text; arguments = given; spot = at.spot })) refl) refl) refl
 
-directives-predictive : (constant : Bool) (n k : ℕ) → Predictive n n (grammar.directives constant (suc n)) (grammar.directives constant k) (reading.directives constant n) (this (codes "@")) (these (codes "@" ∷ codes "(" ∷ [])) true
+pub directives-predictive : (constant : Bool) (n k : ℕ) → Predictive n n (grammar.directives constant (suc n)) (grammar.directives constant k) (reading.directives constant n) (this (codes "@")) (these (codes "@" ∷ codes "(" ∷ [])) true
 unfolding reading.directives
 directives-predictive constant n k = many-predictive (is_punctuator (codes "@")) (this (codes "@")) (λ t h. is_punctuator-has (codes "@") t ∙ h) (λ t h. sym (is_punctuator-has (codes "@") t) ∙ h) refl (directive-predictive constant n k)
 
 -- ---- variables and types
 
-named_type-predictive : {n : ℕ} → Predictive n n grammar.named_type grammar.named_type reading.named_type names no_tokens false
+pub named_type-predictive : {n : ℕ} → Predictive n n grammar.named_type grammar.named_type reading.named_type names no_tokens false
 named_type-predictive = bind-predictive name-predictive (λ word. returns-predictive (type.Named word.text word.spot)) refl
 
-non_null-predictive : {n : ℕ} (inner : TypeRef) → Predictive n n (grammar.maybe_non_null inner) (grammar.maybe_non_null inner) (reading.maybe_non_null inner) (this (codes "!")) (this (codes "!")) true
+pub non_null-predictive : {n : ℕ} (inner : TypeRef) → Predictive n n (grammar.maybe_non_null inner) (grammar.maybe_non_null inner) (reading.maybe_non_null inner) (this (codes "!")) (this (codes "!")) true
 non_null-predictive inner = pick_first-predictive (is_punctuator (codes "!")) (is_punctuator-has (codes "!")) (bind-predictive (punctuator-predictive (codes "!") refl refl) (λ _. returns-predictive (type.NonNull inner)) refl) (returns-predictive inner) refl
 
 abbrev type_of : Phrase TypeRef → Phrase TypeRef
@@ -489,11 +489,11 @@ list_type-predictive (suc n) (suc k) = list_type_from n k (type_at n k (list_typ
 list_type-predictive (suc n) zero = other-predictive (grammar.list_type (grammar.type_ref (suc n))) never (λ tokens a h. h) (λ tokens a h. h) (λ tokens a h. absurd h)
     (list_type_from n zero (type_at n zero (list_type-predictive n zero)))
 
-type_ref-predictive : (n k : ℕ) → Predictive n n (grammar.type_ref (suc n)) (grammar.type_ref k) (reading.type_ref n) (union names (this (codes "["))) (this (codes "!")) false
+pub type_ref-predictive : (n k : ℕ) → Predictive n n (grammar.type_ref (suc n)) (grammar.type_ref k) (reading.type_ref n) (union names (this (codes "["))) (this (codes "!")) false
 unfolding reading.type_ref
 type_ref-predictive n k = type_at n k (list_type-predictive n k)
 
-default-predictive : (n k : ℕ) → Predictive n n (grammar.default_value (suc n)) (grammar.default_value k) (reading.default_value n) (this (codes "=")) no_tokens false
+pub default-predictive : (n k : ℕ) → Predictive n n (grammar.default_value (suc n)) (grammar.default_value k) (reading.default_value n) (this (codes "=")) no_tokens false
 unfolding reading.default_value
 default-predictive n k = bind-predictive (punctuator-predictive (codes "=") refl refl) (λ _. value-predictive true n k) refl
 
@@ -515,7 +515,7 @@ variable_definitions-predictive n k = listed-predictive (codes "(")
 -- ---- selections
 
 -- what begins with a phrase that passes a test begins so
-first_bind : {A B : Type 0} (test : Lexeme → Bool) (q : Phrase A) (f : A → Phrase B) → ((t : Lexeme) (ts : List Lexeme) (a : A) → q (t ∷ ts) a → test t ≡ true) → ((a : A) → q [] a → ⊥)
+pub first_bind : {A B : Type 0} (test : Lexeme → Bool) (q : Phrase A) (f : A → Phrase B) → ((t : Lexeme) (ts : List Lexeme) (a : A) → q (t ∷ ts) a → test t ≡ true) → ((a : A) → q [] a → ⊥)
     → (t : Lexeme) (ts : List Lexeme) (b : B) → phrase.◌>>=◌ q f (t ∷ ts) b → test t ≡ true
 first_bind test q f passes empty t ts b h = by h.1.front h.1.whole h.1.front_is
   where
@@ -523,18 +523,26 @@ first_bind test q f passes empty t ts b h = by h.1.front h.1.whole h.1.front_is
     by [] e is = absurd (empty h.0 is)
     by (x ∷ front) e is = let same : t ≡ x = cc in ap test same ∙ passes x front h.0 is
 
-empty_bind : {A B : Type 0} (q : Phrase A) (f : A → Phrase B) → ((a : A) → q [] a → ⊥) → (b : B) → phrase.◌>>=◌ q f [] b → ⊥
+pub empty_bind : {A B : Type 0} (q : Phrase A) (f : A → Phrase B) → ((a : A) → q [] a → ⊥) → (b : B) → phrase.◌>>=◌ q f [] b → ⊥
 empty_bind q f empty b h = empty h.0 (subst (λ w. q w h.0) (nil_first h.1.front h.1.back h.1.whole) h.1.front_is)
 
 aliased-predictive : {n : ℕ} → Predictive n n grammar.aliased grammar.aliased reading.aliased (this (codes ":")) no_tokens false
 aliased-predictive = bind-predictive (punctuator-predictive (codes ":") refl refl) (λ _. name-predictive) refl
 
-a_word : List ℕ → Lexeme
+pub a_word : List ℕ → Lexeme
 a_word text = a_token kind.Name text
 
 a_word_is : is_fragment_name (a_word (codes "a")) ≡ true
 unfolding a_token a_word
 a_word_is = refl
+
+pub word_example : (word : List ℕ) → is_word word (a_word word) ≡ true
+unfolding a_token a_word
+word_example word = (bytes_eq-Decides word word).1 refl
+
+pub an_enum_value : is_enum_value (a_word (codes "a")) ≡ true
+unfolding a_token a_word
+an_enum_value = refl
 
 on_is : is_word (codes "on") (a_word (codes "on")) ≡ true
 unfolding a_token a_word
@@ -724,7 +732,7 @@ short-predictive : (n k : ℕ) → Predictive n n (grammar.short_operation (suc 
 unfolding reading.short_operation
 short-predictive n k = bind-predictive (selection_set-predictive n k) (λ set. returns-predictive _) refl
 
-query_is : is_operation_type (a_word (codes "query")) ≡ true
+pub query_is : is_operation_type (a_word (codes "query")) ≡ true
 unfolding a_token a_word
 query_is = refl
 
@@ -783,23 +791,28 @@ document-predictive n k =
     bind_apart-predictive (some-predictive reading.is_any all_tokens (λ t h. refl) (λ t h. refl) refl (definition-predictive n k)) (λ all. returns-predictive (record { definitions = all }))
     (λ t h. let no = disjoint-has no_tokens no_tokens t refl h in absurd cc)
 
-nothing_next : (tokens : List Lexeme) → next_is reading.is_any tokens ≡ false → tokens ≡ []
+pub nothing_next : (tokens : List Lexeme) → next_is reading.is_any tokens ≡ false → tokens ≡ []
 nothing_next [] h = refl
 nothing_next (t ∷ tokens) h = absurd cc
 
-some_whole : (n : ℕ) (tokens rest : List Lexeme) (all : List Definition) (b : Bool) → next_is reading.is_any tokens ≡ b → reading.some reading.is_any (reading.any_definition n) tokens ≡ Ok (all, rest) → rest ≡ []
-some_whole n tokens rest all true e h =
-    let one = definition-predictive n n in
-    nothing_next rest (many_ends (grammar.any_definition (suc n)) (reading.any_definition n) reading.is_any n one.found one.stopped (λ a x. false_true (one.solid a x)) one.begun one.local (length tokens) tokens rest all (omega arith)
-    (sym (pick_yes reading.is_any (reading.many reading.is_any (reading.any_definition n)) (λ ts. Err (stop.Unexpected, ts)) tokens e) ∙ h))
-some_whole n tokens rest all false e h = let no = sym (pick_no reading.is_any (reading.many reading.is_any (reading.any_definition n)) (λ ts. Err (stop.Unexpected, ts)) tokens e) ∙ h in absurd cc
+-- what is read one after another to the end leaves nothing
+some_whole : {A : Type 0} {n : ℕ} {p q : Phrase A} {r : Reader A} {F N : Set} → Predictive n n p q r F N false
+    → (tokens rest : List Lexeme) (all : List A) (b : Bool) → next_is reading.is_any tokens ≡ b → reading.some reading.is_any r tokens ≡ Ok (all, rest) → rest ≡ []
+some_whole {n = n} {p = p} {r = r} one tokens rest all true e h =
+    nothing_next rest (many_ends p r reading.is_any n one.found one.stopped (λ a x. false_true (one.solid a x)) one.begun one.local (length tokens) tokens rest all (omega arith)
+    (sym (pick_yes reading.is_any (reading.many reading.is_any r) (λ ts. Err (stop.Unexpected, ts)) tokens e) ∙ h))
+some_whole {r = r} one tokens rest all false e h = let no = sym (pick_no reading.is_any (reading.many reading.is_any r) (λ ts. Err (stop.Unexpected, ts)) tokens e) ∙ h in absurd cc
 
-document_by : (n : ℕ) (tokens rest : List Lexeme) (it : Document) (x : reading.Reading (List Definition)) → reading.some reading.is_any (reading.any_definition n) tokens ≡ x
-    → reading.behind x (λ all. gives (record { definitions = all })) ≡ Ok (it, rest) → rest ≡ []
-document_by n tokens rest it (Ok x) e h = sym (same_rest h) ∙ some_whole n tokens x.1 x.0 (next_is reading.is_any tokens) refl e
-document_by n tokens rest it (Err y) e h = absurd cc
+whole_by : {A B : Type 0} {n : ℕ} {p q : Phrase A} {r : Reader A} {F N : Set} (make : List A → B) → Predictive n n p q r F N false
+    → (tokens rest : List Lexeme) (it : B) (x : reading.Reading (List A)) → reading.some reading.is_any r tokens ≡ x → reading.behind x (λ all. gives (make all)) ≡ Ok (it, rest) → rest ≡ []
+whole_by make one tokens rest it (Ok x) e h = sym (same_rest h) ∙ some_whole one tokens x.1 x.0 (next_is reading.is_any tokens) refl e
+whole_by make one tokens rest it (Err y) e h = absurd cc
+
+pub to_the_end : {A B : Type 0} {n : ℕ} {p q : Phrase A} {r : Reader A} {F N : Set} (make : List A → B) → Predictive n n p q r F N false
+    → (tokens rest : List Lexeme) (it : B) → reading.◌>>=◌ (reading.some reading.is_any r) (λ all. gives (make all)) tokens ≡ Ok (it, rest) → rest ≡ []
+to_the_end {r = r} make one tokens rest it h = whole_by make one tokens rest it (reading.some reading.is_any r tokens) refl h
 
 -- a document that is read leaves nothing
 pub document_whole : (n : ℕ) (tokens rest : List Lexeme) (it : Document) → reading.document n tokens ≡ Ok (it, rest) → rest ≡ []
 unfolding reading.document
-document_whole n tokens rest it h = document_by n tokens rest it (reading.some reading.is_any (reading.any_definition n) tokens) refl h
+document_whole n = to_the_end (λ all. record { definitions = all }) (definition-predictive n n)

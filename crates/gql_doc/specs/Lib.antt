@@ -5,6 +5,7 @@ pub mod Pieces
 pub mod Phrase
 pub mod Terminals
 pub mod Grammar
+pub mod TypeGrammar
 pub mod Nesting
 pub mod Answer
 pub mod Printed

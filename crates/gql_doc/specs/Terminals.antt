@@ -46,6 +46,10 @@ is_word word token = is_name token && bytes_eq token.text word
 abbrev pub is_fragment_name : Lexeme → Bool
 is_fragment_name token = is_name token && not (bytes_eq token.text (codes "on"))
 
+-- EnumValue: a name but `true`, `false` and `null`
+abbrev pub is_enum_value : Lexeme → Bool
+is_enum_value token = is_name token && not (bytes_eq token.text (codes "true") || (bytes_eq token.text (codes "false") || bytes_eq token.text (codes "null")))
+
 -- OperationType
 abbrev pub is_operation_type : Lexeme → Bool
 is_operation_type token = is_word (codes "query") token || (is_word (codes "mutation") token || is_word (codes "subscription") token)

@@ -124,7 +124,7 @@ impl<'a> Parser<'a> {
 }
 
 /// The type of operation that a token names, which is `query`, `mutation` or else `subscription`.
-fn kind_of(word: &Token<'_>) -> OperationKind
+pub(crate) fn kind_of(word: &Token<'_>) -> OperationKind
     ensures { result ≡ operation_kind (lexeme word.now) }
 {
     match word.text {

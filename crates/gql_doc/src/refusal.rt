@@ -1,4 +1,4 @@
-//! Why a text is no document.
+//! Why a text is no document, executable or of type definitions.
 
 ghost use Rattle.std.specs.Prelude.{◌≡◌};
 ghost use Rattle.gql_doc.specs.Refusals.{parse_name, parse_spot};
@@ -10,8 +10,8 @@ use thiserror::Error;
 /// Why a text is no document: the first thing in order of the text that is in the way of one.
 #[derive(Clone, Copy, Debug, PartialEq, Eq, Error)]
 pub enum ParseRefusal {
-    /// The text has more than 1,048,576 bytes.
-    #[error("the text has more than 1,048,576 bytes")]
+    /// A document has more than 1,048,576 bytes, or type definitions more than 67,108,864.
+    #[error("the text is too long")]
     TooLong,
     /// What stands there is no token.
     #[error(transparent)]

@@ -3,7 +3,7 @@
 ghost use Rattle.std.specs.Prelude.{◌≡◌, codes};
 ghost use Rattle.std.specs.Str.{bytes_eq};
 ghost use Rattle.gql_lex.specs.Tokens.{lexeme};
-ghost use Rattle.gql_doc.specs.Terminals.{is_punctuator, is_name, is_number, is_string, is_word, is_fragment_name, is_operation_type, is_field_part};
+ghost use Rattle.gql_doc.specs.Terminals.{is_punctuator, is_name, is_number, is_string, is_word, is_fragment_name, is_enum_value, is_operation_type, is_field_part};
 ghost use Rattle.gql_doc.specs.inner.Matches.{matches};
 
 use gql_lex::{Token, TokenKind};
@@ -21,6 +21,8 @@ pub(crate) enum Terminal {
     Word(&'static str),
     /// Any name but `on`.
     FragmentName,
+    /// Any name but `true`, `false` and `null`.
+    EnumValue,
     /// `query`, `mutation` or `subscription`.
     OperationType,
     /// What begins all that may stand between a field's name and its selection set: `:`, `(` or `@`.
@@ -40,6 +42,7 @@ impl Terminal {
             Terminal::StringValue => is_string(token),
             Terminal::Word(text) => is_word(token, text),
             Terminal::FragmentName => is_fragment_name(token),
+            Terminal::EnumValue => is_enum_value(token),
             Terminal::OperationType => is_operation_type(token),
             Terminal::FieldPart => is_field_part(token),
         }
@@ -93,6 +96,12 @@ fn is_fragment_name(token: &Token<'_>) -> bool
     ensures { result ≡ is_fragment_name (lexeme token.now) }
 {
     is_name(token) && token.text != "on"
+}
+
+fn is_enum_value(token: &Token<'_>) -> bool
+    ensures { result ≡ is_enum_value (lexeme token.now) }
+{
+    is_name(token) && !(token.text == "true" || token.text == "false" || token.text == "null")
 }
 
 fn is_operation_type(token: &Token<'_>) -> bool

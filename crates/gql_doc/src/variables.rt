@@ -16,7 +16,7 @@ impl Parser<'_> {
     /// `Type`
     #[cycle(type_ref)]
     #[tactic(auto, unfolding(crate::specs::inner::Reading::type_ref))]
-    fn type_ref(&mut self, room: u32) -> Result<TypeRef, Stop>
+    pub(crate) fn type_ref(&mut self, room: u32) -> Result<TypeRef, Stop>
         ensures reads { Gives (λ x. x) result (left self.new) (type_ref room (left self.old)) }
         ensures same { text_end self.new ≡ text_end self.old }
     {
@@ -67,7 +67,7 @@ impl Parser<'_> {
 
     /// `DefaultValue?`
     #[tactic(auto, unfolding(crate::specs::inner::Reading::default_value))]
-    fn default_value(&mut self, room: u32) -> Result<Option<Literal>, Stop>
+    pub(crate) fn default_value(&mut self, room: u32) -> Result<Option<Literal>, Stop>
         ensures reads { Gives (λ x. x) result (left self.new) (optional (is_punctuator (codes "=")) (default_value room) (left self.old)) }
         ensures same { text_end self.new ≡ text_end self.old }
     {

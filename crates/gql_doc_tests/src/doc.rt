@@ -5,3 +5,4 @@ mod hostile;
 mod parts;
 mod printing;
 mod strings;
+mod types;

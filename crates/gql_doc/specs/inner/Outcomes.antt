@@ -8,7 +8,6 @@ use Rattle.gql_doc.specs.declared.parser.Stop.{Stop}
 use Rattle.gql_doc.specs.declared.parser.Stop.TheVariants as stop
 use Rattle.gql_doc.specs.declared.refusal.ParseRefusal.{ParseRefusal}
 use Rattle.gql_doc.specs.declared.refusal.ParseRefusal.TheVariants as refusal
-use Rattle.gql_model.specs.declared.syntax.Document.{Document}
 
 -- where the next token begins
 abbrev pub next_spot : List Lexeme → Option Spot
@@ -29,10 +28,10 @@ refusal_of stop.TooDeep (token ∷ tokens) end = refusal.TooDeep token.spot
 refusal_of stop.TooDeep [] end = at_end end
 
 -- a document that all tokens are
-abbrev pub found : Document → Result Spot LexRefusal → Result Document ParseRefusal
+abbrev pub found : {A : Type 0} → A → Result Spot LexRefusal → Result A ParseRefusal
 found it (Ok spot) = Ok it
 found it (Err fault) = Err (refusal.Lex fault)
 
-abbrev pub outcome : Reading Document → Result Spot LexRefusal → Result Document ParseRefusal
+abbrev pub outcome : {A : Type 0} → Reading A → Result Spot LexRefusal → Result A ParseRefusal
 outcome (Ok x) end = found x.0 end
 outcome (Err e) end = Err (refusal_of e.0 e.1 end)

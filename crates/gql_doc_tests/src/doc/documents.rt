@@ -9,7 +9,7 @@ use std::process::Abort;
 use std::test::Fail;
 
 /// A refusal's name, and its place where it has one.
-fn refusal_shown(alloc: Global, refusal: ParseRefusal) -> Result<String, Fail> {
+pub(crate) fn refusal_shown(alloc: Global, refusal: ParseRefusal) -> Result<String, Fail> {
     match refusal.spot() {
         Some(spot) => titled(alloc, refusal.name(), "", spot),
         None => Ok(format!(in alloc; "{}", refusal.name())?),
@@ -261,10 +261,7 @@ fn no_tokens(rt: HostRuntime) -> Result<(), Fail> {
 fn messages(rt: HostRuntime) -> Result<(), Fail> {
     let spot = Spot { line: 2, column: 7 };
     let table = [
-        (
-            ParseRefusal::TooLong,
-            "the text has more than 1,048,576 bytes",
-        ),
+        (ParseRefusal::TooLong, "the text is too long"),
         (
             ParseRefusal::Lex(LexRefusal::OpenString(spot)),
             "the string at 2:7 doesn't end",
