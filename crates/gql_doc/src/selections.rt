@@ -53,6 +53,7 @@ impl<'a> Parser<'a> {
     }
 
     /// `SelectionSet`
+    #[inline(never)]
     #[cycle(selection)]
     #[tactic(auto, unfolding(crate::specs::inner::Reading::selections))]
     pub(crate) fn selections(&mut self, room: u32) -> Result<Listed<Selection>, Stop>
@@ -90,23 +91,19 @@ impl<'a> Parser<'a> {
     {
         let first = self.take(Terminal::Name)?;
         if self.next_is(Terminal::FieldPart) {
-            return self.behind_name(room, &first);
+            return self.behind_name(room, first);
         }
         let selections = self.maybe_selections(room)?;
-        self.plain_field(&first, selections)
+        self.plain_field(first, selections)
     }
 
     /// `Field` without an alias, arguments and directives
-    fn plain_field(
-        &self,
-        name: &Token<'_>,
-        selections: Listed<Selection>,
-    ) -> Result<Selection, Stop>
-        ensures { MatchResult result (λ field. field ≡ plain_field (lexeme name.now) selections) (λ why. why ≡ stop.NoMemory) }
+    fn plain_field(&self, name: Token<'_>, selections: Listed<Selection>) -> Result<Selection, Stop>
+        ensures { MatchResult result (λ field. field ≡ plain_field (lexeme name.entry) selections) (λ why. why ≡ stop.NoMemory) }
     {
         Ok(Selection::Field(FieldNode {
             alias: None,
-            name: self.text(name)?,
+            name: self.text(&name)?,
             arguments: Sparse::new(),
             directives: Sparse::new(),
             selections,
@@ -117,8 +114,8 @@ impl<'a> Parser<'a> {
     /// `Field`, behind its first name
     #[cycle(selection)]
     #[tactic(auto, unfolding(crate::specs::inner::Reading::behind_name))]
-    fn behind_name(&mut self, room: u32, first: &Token<'_>) -> Result<Selection, Stop>
-        ensures reads { Gives (λ x. x) result (left self.new) (behind_name room (selections room) (lexeme first.now) (left self.old)) }
+    fn behind_name(&mut self, room: u32, first: Token<'_>) -> Result<Selection, Stop>
+        ensures reads { Gives (λ x. x) result (left self.new) (behind_name room (selections room) (lexeme first.entry) (left self.old)) }
         ensures same { text_end self.new ≡ text_end self.old }
     {
         let second = self.aliased()?;
@@ -131,10 +128,10 @@ impl<'a> Parser<'a> {
     fn behind_names(
         &mut self,
         room: u32,
-        first: &Token<'_>,
+        first: Token<'_>,
         second: Option<Token<'_>>,
     ) -> Result<Selection, Stop>
-        ensures reads { Gives (λ x. x) result (left self.new) (behind_names room (selections room) (lexeme first.now) (option_map lexeme second.entry) (left self.old)) }
+        ensures reads { Gives (λ x. x) result (left self.new) (behind_names room (selections room) (lexeme first.entry) (option_map lexeme second.entry) (left self.old)) }
         ensures same { text_end self.new ≡ text_end self.old }
     {
         let arguments = self.arguments(false, room)?;
@@ -152,6 +149,7 @@ impl<'a> Parser<'a> {
     }
 
     /// `SelectionSet?`
+    #[inline(always)]
     #[cycle(selection)]
     fn maybe_selections(&mut self, room: u32) -> Result<Listed<Selection>, Stop>
         ensures reads { Gives (λ x. x) result (left self.new) (listed (is_punctuator (codes "{")) (selections room) (left self.old)) }
@@ -167,17 +165,17 @@ impl<'a> Parser<'a> {
     /// The alias and the name of a field, by its first name and the one behind a colon.
     fn alias_and_name(
         &self,
-        first: &Token<'_>,
+        first: Token<'_>,
         second: Option<Token<'_>>,
     ) -> Result<(Option<Boxed<Text>>, Text), Stop>
-        ensures { MatchResult result (λ names. (names.0 ≡ alias_by (lexeme first.now) (option_map lexeme second.entry)) × (names.1 ≡ name_by (lexeme first.now) (option_map lexeme second.entry))) (λ why. why ≡ stop.NoMemory) }
+        ensures { MatchResult result (λ names. (names.0 ≡ alias_by (lexeme first.entry) (option_map lexeme second.entry)) × (names.1 ≡ name_by (lexeme first.entry) (option_map lexeme second.entry))) (λ why. why ≡ stop.NoMemory) }
     {
         match second {
             Some(second) => {
-                let alias = Boxed::new(self.alloc, self.text(first)?)?;
+                let alias = Boxed::new(self.alloc, self.text(&first)?)?;
                 Ok((Some(alias), self.text(&second)?))
             }
-            None => Ok((None, self.text(first)?)),
+            None => Ok((None, self.text(&first)?)),
         }
     }
 

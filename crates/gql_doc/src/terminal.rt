@@ -63,6 +63,7 @@ fn is_same(left: &str, right: &str) -> bool
 {
     match (left.as_bytes(), right.as_bytes()) {
         ([byte], [other]) => byte == other,
+        ([_], _) | (_, [_]) => false,
         _ => left == right,
     }
 }

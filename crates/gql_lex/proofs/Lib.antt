@@ -1,5 +1,6 @@
 pub mod Answers
 pub mod BlockTexts
+pub mod ByteMaps
 pub mod Contents
 pub mod Determined
 pub mod Escapes

@@ -84,6 +84,7 @@ pub(crate) fn behind_blanks(spot: Spot, text: &[u8], count: usize) -> Spot
     match text {
         [byte, rest @ ..] if count == 1 => behind(spot, *byte, rest),
         _ if count == 0 => spot,
+        _ if count < FEW => behind_each(spot, text, count),
         _ => behind_all(spot, text, count),
     }
 }

@@ -13,6 +13,28 @@ use crate::string::string;
 use crate::token::TokenKind;
 use gql_tree::Spot;
 
+// Each byte of a name stands at its own place, and a dot at every other place.
+static NAME_MAP: [u8; 256] = *b"\
+    ................................\
+    ................0123456789......\
+    .ABCDEFGHIJKLMNOPQRSTUVWXYZ...._\
+    .abcdefghijklmnopqrstuvwxyz.....\
+    ................................\
+    ................................\
+    ................................\
+    ................................";
+
+// Each punctuator of one byte stands at its own place, and a dot at every other place.
+static PUNCTUATOR_MAP: [u8; 256] = *b"\
+    ................................\
+    .!..$.&.()................:..=..\
+    @..........................[.]..\
+    ...........................{|}..\
+    ................................\
+    ................................\
+    ................................\
+    ................................";
+
 /// What stands at the front.
 #[derive(Clone, Copy)]
 pub(crate) enum Found {
@@ -64,19 +86,7 @@ pub(crate) fn front(text: &[u8]) -> Option<Found>
 fn is_punctuator(byte: u8) -> bool
     ensures { result ≡ is_punctuator byte }
 {
-    byte == b'!'
-        || byte == b'$'
-        || byte == b'&'
-        || byte == b'('
-        || byte == b')'
-        || byte == b':'
-        || byte == b'='
-        || byte == b'@'
-        || byte == b'['
-        || byte == b']'
-        || byte == b'{'
-        || byte == b'|'
-        || byte == b'}'
+    PUNCTUATOR_MAP[byte as usize] != b'.'
 }
 
 /// A name's first character.
@@ -90,7 +100,7 @@ pub(crate) fn begins_name(byte: u8) -> bool
 fn continues_name(byte: u8) -> bool
     ensures { result ≡ continues_name byte }
 {
-    byte == b'_' || byte.is_ascii_alphanumeric()
+    NAME_MAP[byte as usize] != b'.'
 }
 
 /// How many characters of a name stand at the front.
