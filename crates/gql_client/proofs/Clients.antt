@@ -1,5 +1,5 @@
 -- What a client takes, part by part.
-use Rattle.std.proofs.Common.{◌≡◌, ◌≢◌, refl, sym, ap, ◌∙◌, subst, inl, inr, arith, append_assoc, append-nil, length-append, Bor, ℕ, ◌+◌, List, [], ◌∷◌, ◌++◌, length, Result, Ok, Err, IsOk, IsErr, IfOk, Bool, true, false, not, None, Some}
+use Rattle.std.proofs.Common.{◌≡◌, ◌≢◌, refl, sym, ap, ◌∙◌, subst, inl, inr, arith, append_assoc, append-nil, length-append, Bor, ℕ, ◌+◌, List, [], ◌∷◌, ◌++◌, length, Result, Ok, Err, IsOk, IsErr, Bool, true, false, not, None, Some}
 use Rattle.std.specs.Prelude.{codes}
 use Rattle.gql_multipart.specs.Frame.{crlf}
 use Rattle.gql_multipart.specs.Body.{IsBoundary, dashes, mark, IsPart, Body, Complete, IsOpen}

@@ -1,5 +1,5 @@
 -- What a client makes of bytes is determined.
-use Rattle.std.proofs.Common.{◌≡◌, ◌≢◌, refl, sym, ap, ap₂, ◌∙◌, subst, inl, inr, arith, true, false, nat_le, leb-true, leb-false, ℕ, ◌+◌, ◌-◌, ◌≤◌, List, [], ◌∷◌, ◌++◌, length, Option, None, Some, Result, Ok, Err, is_some, codes, length-append}
+use Rattle.std.proofs.Common.{◌≡◌, refl, sym, ap, ap₂, ◌∙◌, subst, inl, inr, arith, true, false, nat_le, leb-true, leb-false, ℕ, ◌+◌, ◌-◌, ◌≤◌, List, [], ◌∷◌, ◌++◌, length, Option, None, Some, Result, Ok, Err, is_some, length-append}
 use Rattle.std.specs.Prelude.{IsUtf8}
 use Rattle.std.proofs.lemmas.List.{append-nil, take-append-le}
 use Rattle.serde_json.specs.Data.{Data}
@@ -20,7 +20,7 @@ use Rattle.gql_multipart.proofs.Sayings.{answers_one}
 use Rattle.gql_merge.specs.declared.state.State.{State}
 use Rattle.gql_merge.specs.declared.refusal.MergeRefusal.{MergeRefusal}
 use Rattle.gql_merge.specs.Apply.{Answer, Apply, fresh}
-use Rattle.gql_merge.specs.Same.{SameState, SameAnswer, IsTypedState}
+use Rattle.gql_merge.specs.Same.{SameState, SameAnswer}
 use Rattle.gql_merge.proofs.OneAnswer.{same_back, apply_one}
 use Rattle.gql_payload.specs.Refusals.{payload_name}
 use Rattle.gql_merge.specs.Refusals.{merge_name}

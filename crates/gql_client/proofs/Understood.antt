@@ -65,7 +65,7 @@ same_entries (e ∷ es) = (record { id = refl; sub_path = refl; content = same_c
 pub same_payload : (p : Payload) → SamePayload p p
 same_payload p = record { initial = same_maybe p.initial; errors = refl; pending = refl; incremental = same_entries p.incremental; completed = refl; has_next = refl }
 
-same_payloads : (ps : List Payload) → SamePayloads ps ps
+pub same_payloads : (ps : List Payload) → SamePayloads ps ps
 same_payloads [] = tt
 same_payloads (p ∷ ps) = (same_payload p, same_payloads ps)
 

@@ -19,8 +19,7 @@ use Rattle.gql_tree.specs.Flat.{Mark, flat}
 use Rattle.gql_tree.specs.Same.{SameFlat}
 use Rattle.gql_tree.specs.Order.{fault_cmp, failure_cmp}
 use Rattle.gql_tree.specs.Ordered.{ordered}
-use Rattle.gql_tree.specs.FirstPayloads.{outcome_value}
-use Rattle.gql_tree.specs.Forest.{Forest, Branches, grown, none, more, region, numbers, tasks_of}
+use Rattle.gql_tree.specs.Forest.{Forest, Branches, grown, none, more, region, numbers, tasks_of, outcome_value}
 use Rattle.gql_tree.specs.Fate.{is_good, GroupRun, ItemRun, groups_below, fragments_below, is_ok, is_delivered, is_announced, items_run, items_of_stream, is_item_delivered, same_path}
 use Rattle.gql_tree.specs.Merged.{Part, part, grown_list, stream_failures, fragment_failures, Delivery, one, both, nothing, whole_scope, delivered_below, delivery, HasMark, IsMerged}
 use Rattle.gql_tree.specs.WellFormed.{Site, works_of, root_site, sites_below, sites, no_two, begins_a_list, shows_list, mark_at, IsWellFormed}

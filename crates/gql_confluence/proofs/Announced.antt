@@ -12,9 +12,8 @@ use Rattle.gql_tree.specs.declared.delivery.Payload.{Payload}
 use Rattle.gql_tree.specs.declared.delivery.Pending.{Pending}
 use Rattle.gql_tree.specs.declared.delivery.RegionResult.{RegionResult}
 use Rattle.gql_tree.specs.Ordered.{ordered}
-use Rattle.gql_tree.specs.Forest.{Forest, Branches, grown, none, more}
+use Rattle.gql_tree.specs.Forest.{Forest, Branches, grown, none, more, outcome_value}
 use Rattle.gql_tree.specs.Fate.{ItemRun, Scope, scope_of, items_run}
-use Rattle.gql_tree.specs.FirstPayloads.{outcome_value}
 use Rattle.gql_tree.specs.Times.{Time, is_at}
 use Rattle.gql_tree.specs.Course.{Schedule, Awaited, Way, at_first, by_owners, by_stream, Arrival, Course, released_at, item_at, course}
 use Rattle.gql_tree.specs.Payloads.{Known, all_known, pending_of, completed_of, is_among, farthest, Standing, standing_cmp, group_entry, group_entries, is_item_of, items_entry, stream_entries, entries_of, arrivals_at, payload_at, moments, next_of, payloads_from, payloads_of, payloads}

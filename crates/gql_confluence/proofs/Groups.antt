@@ -17,8 +17,7 @@ use Rattle.gql_tree.specs.declared.delivery.Outcome.TheVariants.{Good, Failed}
 use Rattle.gql_tree.specs.declared.delivery.RegionResult.{RegionResult}
 use Rattle.gql_tree.specs.declared.delivery.TaskWork.TheVariants.{Fields, Item}
 use Rattle.gql_tree.specs.Flat.{Mark, object, flat, members_of}
-use Rattle.gql_tree.specs.Forest.{Forest, numbers, items_to_come, tasks_of}
-use Rattle.gql_tree.specs.FirstPayloads.{outcome_value}
+use Rattle.gql_tree.specs.Forest.{Forest, numbers, items_to_come, tasks_of, outcome_value}
 use Rattle.gql_tree.specs.Fate.{is_good}
 use Rattle.gql_tree.specs.WellFormed.{Site, keys_of, sites, is_prefix, mark_at, shows_object, shows_nothing, no_two, stands_below, brings_new_keys, has_the_keys, has_its_fields, IsWellFormed}
 use Rattle.gql_confluence.proofs.Parts.{In, in_right, in_cases, HasAt}

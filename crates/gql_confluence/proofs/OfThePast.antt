@@ -10,8 +10,7 @@ use Rattle.gql_tree.specs.Course.{Schedule, Awaited, announced_at, items_awaited
 use Rattle.gql_tree.specs.Numbering.{event_of, by_events}
 use Rattle.gql_tree.specs.Payloads.{payloads, payloads_of}
 use Rattle.gql_tree.specs.WellFormed.{IsWellFormed}
-use Rattle.gql_tree.specs.Causal.{SameSoFar, ended_after}
-use Rattle.gql_confluence.specs.Confluence.{PayloadsAreOfThePast}
+use Rattle.gql_tree.specs.Causal.{SameSoFar, ended_after, PayloadsAreOfThePast}
 use Rattle.gql_confluence.proofs.Places.{FragmentAwaited}
 use Rattle.gql_confluence.proofs.Awaits.{StreamGrows, all_awaits}
 use Rattle.gql_confluence.proofs.Past.{tasks_are_of_the_past}

@@ -10,8 +10,7 @@ use Rattle.gql_tree.specs.declared.value.Value.{Value}
 use Rattle.gql_tree.specs.declared.delivery.Fault.{Fault}
 use Rattle.gql_tree.specs.declared.delivery.Payload.{Payload}
 use Rattle.gql_tree.specs.declared.delivery.RegionResult.{RegionResult}
-use Rattle.gql_tree.specs.Forest.{region}
-use Rattle.gql_tree.specs.FirstPayloads.{outcome_value}
+use Rattle.gql_tree.specs.Forest.{region, outcome_value}
 use Rattle.gql_tree.specs.Times.{Time, is_at}
 use Rattle.gql_tree.specs.Course.{Awaited, Course, course}
 use Rattle.gql_tree.specs.Payloads.{Known, all_known, pending_of, completed_of, payload_at, moments, next_of, payloads_from, payloads_of}

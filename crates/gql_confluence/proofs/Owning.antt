@@ -4,7 +4,7 @@ use Rattle.gql_tree.specs.declared.path.Key.{Key}
 use Rattle.gql_tree.specs.declared.path.Key.TheVariants.{Name}
 use Rattle.gql_tree.specs.declared.value.Value.{Value}
 use Rattle.gql_tree.specs.Flat.{Mark, object, flat}
-use Rattle.gql_tree.specs.FirstPayloads.{outcome_value}
+use Rattle.gql_tree.specs.Forest.{outcome_value}
 use Rattle.gql_tree.specs.Merged.{Part}
 use Rattle.gql_tree.specs.WellFormed.{Site}
 use Rattle.gql_confluence.proofs.Parts.{In, HasAt}

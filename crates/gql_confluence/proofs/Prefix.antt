@@ -14,7 +14,7 @@ use Rattle.gql_tree.specs.declared.delivery.Group.{Group}
 use Rattle.gql_tree.specs.declared.delivery.RegionResult.{RegionResult}
 use Rattle.gql_tree.specs.Order.{path_cmp}
 use Rattle.gql_tree.specs.Ordered.{ordered}
-use Rattle.gql_tree.specs.FirstPayloads.{outcome_value}
+use Rattle.gql_tree.specs.Forest.{outcome_value}
 use Rattle.gql_tree.specs.Times.{Time, is_at, has_time}
 use Rattle.gql_tree.specs.Course.{Awaited, Way, at_first, by_owners, by_stream, Arrival, Course}
 use Rattle.gql_tree.specs.Payloads.{kind_cmp, awaited_cmp, Known, known_from, all_known, pending_of, completed_of, is_among, farthest, Standing, standing_cmp, group_entry, group_entries, is_item_of, items_entry, stream_entries, entries_of, arrivals_at, payload_at, noted_all, moments, is_finished, next_of, payloads_from, payloads_of}

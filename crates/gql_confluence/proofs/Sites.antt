@@ -16,8 +16,7 @@ use Rattle.gql_tree.specs.declared.delivery.TaskWork.{TaskWork}
 use Rattle.gql_tree.specs.declared.delivery.TaskWork.TheVariants.{Fields, Item}
 use Rattle.gql_tree.specs.Keys.{same_lists, same_key}
 use Rattle.gql_tree.specs.Flat.{Mark, null, truth, integer, text, object, list, mark_of, flat, members_of}
-use Rattle.gql_tree.specs.Forest.{Forest, Branches, grown, none, more, tasks_of}
-use Rattle.gql_tree.specs.FirstPayloads.{outcome_value}
+use Rattle.gql_tree.specs.Forest.{Forest, Branches, grown, none, more, tasks_of, outcome_value}
 use Rattle.gql_tree.specs.Fate.{is_good, Scope, scope_of}
 use Rattle.gql_tree.specs.WellFormed.{first_region, Site, works_of, root_site, keys_of, sites_below, sites, mark_at, shows_object, no_two, share_a_key, collide, shows_list, begins_a_list, has_the_keys, has_its_fields, IsWellFormed}
 use Rattle.gql_confluence.proofs.Parts.{In, in_left, in_right}

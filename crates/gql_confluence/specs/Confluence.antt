@@ -18,7 +18,6 @@ use Rattle.gql_tree.specs.Payloads.{payloads}
 use Rattle.gql_tree.specs.Numbering.{times, is_complete}
 use Rattle.gql_tree.specs.WellFormed.{Site, sites, IsWellFormed}
 use Rattle.gql_tree.specs.Lawful.{IsLawful}
-use Rattle.gql_tree.specs.Causal.{SameSoFar, ended_after}
 
 -- fewer than 2 ^ 64 ids are given; an id is a number in decimal, and numbers below 2 ^ 64 have different texts
 abbrev pub HasFewIds : Forest → Schedule → Type 0
@@ -82,8 +81,3 @@ PendingsAreOfTheForest = (f : Forest) (p : Schedule) (q : Payload) (x : Pending)
 -- the times of a complete order of a well-formed forest are lawful
 abbrev pub CompleteOrdersAreLawful : Type 0
 CompleteOrdersAreLawful = (f : Forest) (ns : List ℕ) → IsWellFormed f → is_complete f ns ≡ true → IsLawful f (times f ns)
-
--- the payloads after some events are those of each well-formed forest that is the same so far
-abbrev pub PayloadsAreOfThePast : Type 0
-PayloadsAreOfThePast = (f g : Forest) (ns : List ℕ) → IsWellFormed f → IsWellFormed g → SameSoFar (ended_after f ns) f g
-    → payloads g (times g ns) ≡ payloads f (times f ns)

@@ -8,8 +8,7 @@ use Rattle.gql_tree.specs.declared.delivery.Stream.{Stream}
 use Rattle.gql_tree.specs.declared.delivery.RegionResult.{RegionResult}
 use Rattle.gql_tree.specs.Flat.{Mark, flat}
 use Rattle.gql_tree.specs.Same.{SameFlat}
-use Rattle.gql_tree.specs.Forest.{Forest, grown}
-use Rattle.gql_tree.specs.FirstPayloads.{outcome_value}
+use Rattle.gql_tree.specs.Forest.{Forest, grown, outcome_value}
 use Rattle.gql_tree.specs.Fate.{is_good, scope_of}
 use Rattle.gql_tree.specs.Merged.{part, Grown, Delivery, delivery, HasMark, IsMerged}
 use Rattle.gql_tree.specs.WellFormed.{sites_below, sites, IsWellFormed}

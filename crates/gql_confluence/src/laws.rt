@@ -1,15 +1,15 @@
 //! Laws of the payloads, each the contract of a function that does nothing.
 
 ghost use Rattle.std.specs.Prelude.{◌≡◌, [], ◌∷◌, true, false};
-ghost use Rattle.gql_tree.specs.WorkedForests.{late_name, streamed};
-ghost use Rattle.gql_tree.specs.FirstPayloads.{first_payloads};
+ghost use Rattle.gql_tree.specs.WorkedForests.{streamed};
 ghost use Rattle.gql_tree.specs.Payloads.{payloads};
 ghost use Rattle.gql_tree.specs.Numbering.{times, is_order, is_complete, inline_order};
+ghost use Rattle.gql_tree.specs.Inline.{inline_payloads};
 ghost use Rattle.gql_tree.specs.WellFormed.{IsWellFormed};
 ghost use Rattle.gql_tree.specs.Lawful.{IsLawful};
 ghost use Rattle.gql_confluence.specs.Everything.{each_task_is_good, FailuresAreTold, AllIsDelivered, ValuesAreSame, ErrorsAreSame};
-ghost use Rattle.gql_confluence.specs.Confluence.{AreTaken, AreMerged, AreHeard, ByLawfulSchedules, IdsAreCompleted, IdsAreAnnouncedFirst, PendingsAreOfTheForest, CompleteOrdersAreLawful, PayloadsAreOfThePast};
-ghost use Rattle.gql_tree.specs.Causal.{ended_after, SameSoFar, PayloadsStay, TasksAreOfThePast};
+ghost use Rattle.gql_confluence.specs.Confluence.{AreTaken, AreMerged, AreHeard, ByLawfulSchedules, IdsAreCompleted, IdsAreAnnouncedFirst, PendingsAreOfTheForest, CompleteOrdersAreLawful};
+ghost use Rattle.gql_tree.specs.Causal.{ended_after, SameSoFar, PayloadsStay, TasksAreOfThePast, PayloadsAreOfThePast};
 ghost use Rattle.gql_confluence.specs.WorkedDocuments.{age_that_fails, empty_fragment, empty_around_another, deferred_at_the_top, one_shared_group, inside_a_failed_one, two_that_fail, failed_item, null_item, whole_list, fragments_in_items, stream_in_a_fragment, done_at_the_start, items_backwards};
 ghost use Rattle.gql_confluence.specs.WorkedPayloads.{a_so_far, a_and_then_b_failed, behind_a_failed_one_payloads, empty_fragment_payloads, empty_around_another_payloads, deferred_at_the_top_payloads, a_first, b_first, both_together, inside_a_failed_one_payloads, failed_together, failed_b_first, failed_item_payloads, null_item_payloads, from_the_last, fragments_in_items_payloads, stream_in_a_fragment_payloads};
 
@@ -142,11 +142,11 @@ pub fn payloads_are_of_the_past()
     ensures { PayloadsAreOfThePast }
 {}
 
-/// The first payloads, as they are defined for one group after another, are those of the inline order where a group stands
-/// at the object of its fragment, and aren't where it stands below it: there the payloads have a path from the one to the other.
-pub fn worked_first_payloads()
-    ensures at_its_fragment { payloads late_name (times late_name (inline_order late_name)) ≡ first_payloads late_name }
-    ensures below_its_fragment { payloads deferred_at_the_top (times deferred_at_the_top (inline_order deferred_at_the_top)) ≡ first_payloads deferred_at_the_top → ⊥ }
+/// What is sent of worked forests whose tasks are run one after another.
+pub fn worked_inline_payloads()
+    ensures top { inline_payloads deferred_at_the_top ≡ deferred_at_the_top_payloads }
+    ensures inside { inline_payloads inside_a_failed_one ≡ inside_a_failed_one_payloads }
+    ensures in_items { inline_payloads fragments_in_items ≡ fragments_in_items_payloads }
 {}
 
 /// Two forests that are the same as far as two of three tasks have ended: the payloads so far are the same, those behind

@@ -10,6 +10,6 @@ pub use laws::{
     complete_orders_are_lawful, ids_are_announced, ids_are_completed, orders_of_tasks,
     payloads_are_merged, payloads_are_of_the_past, payloads_of_fragments, payloads_of_streams,
     payloads_stay, responses_without_failures_have_all, schedules_that_are_not_lawful,
-    tasks_are_of_the_past, worked_first_payloads, worked_forests_are_well_formed,
+    tasks_are_of_the_past, worked_forests_are_well_formed, worked_inline_payloads,
     worked_orders_are_lawful, worked_payloads_so_far,
 };

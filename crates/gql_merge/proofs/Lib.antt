@@ -8,16 +8,9 @@ pub mod Made
 pub mod Applied
 pub mod Ordered
 pub mod Exact
-pub mod Received
 pub mod Taken
 pub mod Reached
-pub mod Deliveries
-pub mod PartMarks
 pub mod Served
 pub mod Merging
 pub mod Reports
-pub mod Alone
-pub mod Waiting
-pub mod Lone
-pub mod Responses
 pub mod OneAnswer

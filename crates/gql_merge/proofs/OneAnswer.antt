@@ -22,7 +22,7 @@ use Rattle.gql_tree.specs.Extended.{IsLonger, IsElsewhere, IsOther, marks}
 use Rattle.gql_tree.proofs.Same.{same_length, items_maybe}
 use Rattle.gql_tree.proofs.Union.{union_agrees}
 use Rattle.gql_tree.proofs.Extended.{split_at}
-use Rattle.gql_tree.proofs.Moved.{key_same}
+use Rattle.gql_tree.proofs.Moved.{key_same, same_key-refl}
 use Rattle.gql_merge.specs.declared.state.State.{State}
 use Rattle.gql_merge.specs.declared.refusal.MergeRefusal.{MergeRefusal}
 use Rattle.gql_merge.specs.declared.refusal.MergeRefusal.TheVariants.{UnknownId, IdTwice, NoSuchPlace, Clash, AfterEnd, NotAList, OpenAtEnd, BadInitial, NoMemory}
@@ -30,7 +30,6 @@ use Rattle.gql_merge.specs.Steps.{Then, Each}
 use Rattle.gql_merge.specs.Order.{Sorts, fault_cmp, failure_cmp}
 use Rattle.gql_merge.specs.Same.{SameState, SameAnswer}
 use Rattle.gql_merge.specs.Apply.{Answer, first_value, kept_value, begun, begin_with, Begins, is_known, announce, Announces, opened, OnlyValue, Grafts, Extends, Puts, target, DeliversAt, Delivers, failed, without, complete_of, Completes, faults_of, is_last, is_some_open, leaves_open, IsEnd, Ends, Apply}
-use Rattle.gql_merge.proofs.Deliveries.{same_key-refl}
 use Rattle.gql_merge.proofs.Ordered.{sorts-ordered}
 use Rattle.gql_merge.proofs.Totals.{faults_total, failures_total}
 use Rattle.gql_merge.proofs.Exact.{faults_exact, failures_exact}

@@ -5,6 +5,5 @@ pub mod Apply
 pub mod Same
 pub mod Runs
 pub mod Report
-pub mod Lone
 pub mod Merging
 pub mod inner

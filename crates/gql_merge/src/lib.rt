@@ -16,9 +16,7 @@ mod parts;
 mod refusal;
 mod state;
 
-pub use laws::{
-    a_payload_has_one_answer, apply_all, first_payloads_are_merged, runs_from_the_start,
-};
+pub use laws::{a_payload_has_one_answer, apply_all, runs_from_the_start};
 pub use merger::Merger;
 pub use order::{compare_failures, compare_faults};
 pub use refusal::MergeRefusal;

@@ -1,6 +1,6 @@
 -- How a request that is executed ends: what is written, and what the client is.
-use Rattle.std.proofs.Common.{◌≡◌, refl, sym, ap, ◌∙◌, subst, inl, inr, ℕ, ◌<◌, append_assoc, append-nil, zero-add, List, [], ◌∷◌, ◌++◌, length, map, Option, Result, Ok, Err}
-use Rattle.std.specs.Prelude.{◌⊎◌, codes}
+use Rattle.std.proofs.Common.{◌≡◌, refl, sym, ap, ◌∙◌, subst, inl, inr, ℕ, ◌<◌, append_assoc, append-nil, zero-add, List, [], ◌∷◌, ◌++◌, length, map, Option, Some, Result, Ok, Err}
+use Rattle.std.specs.Prelude.{◌⊎◌}
 use Rattle.std.specs.List.{AllByRecursion as Each}
 use Rattle.std.specs.Result.{IsErrAnd}
 use Rattle.std.proofs.lemmas.List.{map-append}
@@ -9,15 +9,12 @@ use Rattle.std.proofs.KnownBytes.{Appends-trans, Appends-kept}
 use Rattle.gql_io.specs.Told.{AppendsPrefix}
 use Rattle.gql_io.proofs.Told.{Prefix-after, Prefix-within}
 use Rattle.gql_tree.specs.declared.Payload.{Payload}
-use Rattle.gql_tree.specs.declared.Value.{Value}
-use Rattle.gql_tree.specs.declared.Fault.{Fault}
-use Rattle.gql_tree.specs.declared.Failure.{Failure}
-use Rattle.gql_tree.specs.Merged.{IsMerged}
-use Rattle.gql_tree.specs.Forest.{Forest, region, branches}
-use Rattle.gql_tree.specs.FirstPayloads.{first_payload, first_payloads, later_payloads, group_regions}
+use Rattle.gql_tree.specs.Forest.{Forest, region, outcome_value}
+use Rattle.gql_tree.specs.Course.{Course, course}
+use Rattle.gql_tree.specs.Payloads.{moments, next_of, payload_at, payloads_from}
+use Rattle.gql_tree.specs.Inline.{inline_times, inline_payloads}
 use Rattle.gql_payload.specs.PayloadText.{payload_text}
 use Rattle.gql_multipart.specs.Frame.{frame}
-use Rattle.gql_payload.specs.ReportText.{report_text}
 use Rattle.gql_merge.specs.Merging.{HasMerged}
 use Rattle.gql_merge.specs.Same.{IsTypedState}
 use Rattle.gql_tool.specs.declared.status.Status.{Status}
@@ -36,7 +33,7 @@ use Rattle.gql_tool.specs.inner.Steps.{ended}
 use Rattle.gql_tool.specs.Outcome.{Outcome}
 use Rattle.gql_tool.specs.Replay.{merged_line}
 use Rattle.gql_tool.proofs.Bodies.{TooLong as TooLongIn, all_fit_or, payload_lines, so_far_fits, frame_fits, fits_or, each-snoc, each-front, each-join, up_to-frame, up_to-later, up_to-single, snoc, some_first}
-use Rattle.gql_tool.proofs.Executed.{merges_all, refuses_none, line_merged}
+use Rattle.gql_tool.proofs.Executed.{merges_all, refuses_none, response_there, line_merged}
 use Rattle.gql_tool.proofs.Sent.{Prefix-all}
 
 -- a limit that is passed by no text that fits
@@ -44,19 +41,18 @@ apart : (text : List ℕ) → Fits text ⊎ (part_limit < length text) → (Fits
 apart text (inl fits) none = absurd (none fits)
 apart text (inr long) none = long
 
--- the line of a response
-line_of : (f : Forest) (value : Value) (errors : List Fault) (failures : List Failure) → IsMerged f value errors failures → (line : List ℕ) × IsMergedLine f line
-line_of f value errors failures merged = (codes "merged " ++ (report_text value errors failures ++ 10 ∷ []), record { value = value; errors = errors; failures = failures; merged = merged; is_line = refl })
-
 module _ (f : Forest) (served : CanBeServed f) where
   abbrev payloads : List Payload
-  payloads = first_payloads f
+  payloads = inline_payloads f
+
+  abbrev co : Course
+  co = course (inline_times f) f
 
   abbrev first : Payload
-  first = first_payload (region f)
+  first = payload_at co 0 (Some (outcome_value (region f).outcome)) (region f).faults (next_of co (moments co))
 
   abbrev later : List Payload
-  later = later_payloads 0 (group_regions (branches f))
+  later = payloads_from co (moments co)
 
   abbrev Asked : Forest → Type 0
   Asked g = g ≡ f
@@ -72,7 +68,7 @@ module _ (f : Forest) (served : CanBeServed f) where
 
   -- the line of its response
   line_there : (line : List ℕ) × IsMergedLine f line
-  line_there = line_of f served.value served.errors served.failures served.merged
+  line_there = (let t = response_there f served in (merged_line t.0, line_merged f t.0 t.1))
 
   -- what was put is a front of what a right outcome writes
   module _ (a b : Option (List ℕ)) where
@@ -165,7 +161,7 @@ module _ (f : Forest) (served : CanBeServed f) where
           let cut : refused_at.0 ++ (refused_at.1 ++ first_of.0) ≡ frame (map payload_text mine) =
           sym (append_assoc refused_at.0 refused_at.1 first_of.0) ∙ (ap (λ xs. xs ++ first_of.0) (sym refused_at.2) ∙ (sym first_of.1 ∙ ap frame (sym mine_texts))) in
           let some = some_first stopped.before stopped.payload in
-          refuses_none f served.lone first later refl mine stopped.after front_all
+          refuses_none f served first later refl mine stopped.after front_all
           (each-front IsReadable mine stopped.after (subst (Each IsReadable) front_all served.readable)) stopped.written some.0 some.1 some.2
           (subst (Each Fits) (sym mine_texts) (each-snoc Fits before text fit fits)) refused_at.0 (refused_at.1 ++ first_of.0) cut new.merger.state refused_at.3.0 refused_at.3.2))
 
@@ -201,7 +197,7 @@ module _ (f : Forest) (served : CanBeServed f) where
 
       module _ (typed : IsTypedState new.merger.state) where
         merged : HasMerged f new.merger.state
-        merged = merges_all f served.lone first later refl served.readable h.0 all_fit new.merger.state typed (heard_all.contents, heard_all.took.complete, heard_all.all, heard_all.took.follows)
+        merged = merges_all f served first later refl served.readable h.0 all_fit new.merger.state typed (heard_all.contents, heard_all.took.complete, heard_all.all, heard_all.took.follows)
 
         line : IsMergedLine f (merged_line new.merger.state)
         line = line_merged f new.merger.state merged
@@ -231,10 +227,10 @@ module _ (f : Forest) (served : CanBeServed f) where
 -- ---- the calls
 
 pub executed-failing : (f : Forest) (served : CanBeServed f) (c : Client) (fresh : IsNew c) (cut : ℕ) (a b : Option (List ℕ)) (new : Client) (r : Result (Unit {0}) Status) (s : Status) → IsErrAnd r (λ e. e ≡ s)
-    → HandedAll (first_payloads f) cut a b c new (Err s) → Meets (Answered (Executed f)) (ended r) a b × ClientEnds (λ g. g ≡ f) cut c new a b (ended r)
+    → HandedAll (inline_payloads f) cut a b c new (Err s) → Meets (Answered (Executed f)) (ended r) a b × ClientEnds (λ g. g ≡ f) cut c new a b (ended r)
 executed-failing f served c fresh cut a b new (Ok x) s err h = absurd err
 executed-failing f served c fresh cut a b new (Err e) s err h = subst (λ (x : Status). Meets (Answered (Executed f)) x a b × ClientEnds (λ g. g ≡ f) cut c new a b x) (sym err) (failing f served c fresh cut a b new s h)
 
 pub executed-ending : (f : Forest) (served : CanBeServed f) (c : Client) (fresh : IsNew c) (cut : ℕ) (a b e : Option (List ℕ)) (new : Client) (r : Result (Unit {0}) Status)
-    → HandedAll (first_payloads f) cut a b c new (Ok tt) → PutsLine new.merger.state b e r → Meets (Answered (Executed f)) (ended r) a e × ClientEnds (λ g. g ≡ f) cut c new a e (ended r)
+    → HandedAll (inline_payloads f) cut a b c new (Ok tt) → PutsLine new.merger.state b e r → Meets (Answered (Executed f)) (ended r) a e × ClientEnds (λ g. g ≡ f) cut c new a e (ended r)
 executed-ending f served c fresh cut a b e new r handed put = ending f served c fresh cut a b new handed e r put

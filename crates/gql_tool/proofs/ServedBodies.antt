@@ -2,8 +2,10 @@
 use Rattle.std.proofs.Common.{◌≡◌, ◌≢◌, refl, sym, ap, ◌∙◌, subst, inl, inr, ℕ, arith, append-nil, List, [], ◌∷◌, ◌++◌, length, length-append, map, Option, None, Some, true, false}
 use Rattle.std.specs.List.{AllByRecursion as Each}
 use Rattle.gql_tree.specs.declared.Payload.{Payload}
-use Rattle.gql_tree.specs.Forest.{Forest, region, branches}
-use Rattle.gql_tree.specs.FirstPayloads.{first_payload, first_payloads, later_payloads, group_regions}
+use Rattle.gql_tree.specs.Forest.{Forest, region, outcome_value}
+use Rattle.gql_tree.specs.Course.{Course, course}
+use Rattle.gql_tree.specs.Payloads.{moments, next_of, payload_at, payloads_from}
+use Rattle.gql_tree.specs.Inline.{inline_times, inline_payloads}
 use Rattle.gql_payload.specs.PayloadText.{payload_text}
 use Rattle.gql_multipart.specs.Body.{IsBoundary, Body}
 use Rattle.gql_multipart.proofs.Frames.{dash_boundary, frame_is_body}
@@ -35,13 +37,16 @@ all_written (p ∷ ps) h = ((λ sound shallow. h.0), all_written ps h.1)
 
 module _ (f : Forest) (boundary input : List ℕ) (h : IsBodyOf f boundary input) where
   abbrev payloads : List Payload
-  payloads = first_payloads f
+  payloads = inline_payloads f
+
+  abbrev co : Course
+  co = course (inline_times f) f
 
   abbrev first : Payload
-  first = first_payload (region f)
+  first = payload_at co 0 (Some (outcome_value (region f).outcome)) (region f).faults (next_of co (moments co))
 
   abbrev later : List Payload
-  later = later_payloads 0 (group_regions (branches f))
+  later = payloads_from co (moments co)
 
   served : CanBeServed f
   served = judged-served h.vars h.schema h.tables h.document f h.request
@@ -51,12 +56,12 @@ module _ (f : Forest) (boundary input : List ℕ) (h : IsBodyOf f boundary input
 
   merged : (s : State) → IsTypedState s → Merges boundary input s → HasMerged f s
   merged s typed merges =
-      merges_all f served.lone first later refl served.readable written h.fit s typed
+      merges_all f served first later refl served.readable written h.fit s typed
       (subst (λ (b : List ℕ). Merges b (body f) s) h.is_dash (subst (λ (bytes : List ℕ). Merges boundary bytes s) h.is_body merges))
 
   not_refused : (front back : List ℕ) → input ≡ front ++ back → (s : State) (why : List ℕ) → Refuses boundary front s why → ⊥
   not_refused front back cut s why refuses =
-      refuses_none f served.lone first later refl payloads [] (sym (append-nil payloads)) served.readable written first later refl h.fit
+      refuses_none f served first later refl payloads [] (sym (append-nil payloads)) served.readable written first later refl h.fit
       front back (sym cut ∙ h.is_body) s why (subst (λ (b : List ℕ). Refuses b front s why) h.is_dash refuses)
 
   is_whole : (contents : List (List ℕ)) × Body boundary input contents

@@ -1,7 +1,7 @@
+pub mod Deliveries
 pub mod Delivery
 pub mod Fields
 pub mod Flat
-pub mod Forest
 pub mod Forests
 pub mod Gives
 pub mod Groups
@@ -10,7 +10,9 @@ pub mod Leaf
 pub mod Merged
 pub mod Met
 pub mod Once
+pub mod OneTask
 pub mod Only
+pub mod PartMarks
 pub mod Payloads
 pub mod Places
 pub mod Plain
@@ -18,11 +20,12 @@ pub mod ReadBack
 pub mod Reading
 pub mod Served
 pub mod Region
-pub mod Responses
 pub mod Rows
 pub mod Sound
 pub mod Spots
 pub mod TableTexts
 pub mod Texts
 pub mod Union
+pub mod WellFormed
+pub mod WellFormedTask
 pub mod Written

@@ -7,7 +7,7 @@ use Rattle.gql_tree.specs.declared.Fault.{Fault}
 use Rattle.gql_tree.specs.declared.Failure.{Failure}
 use Rattle.gql_tree.specs.declared.Payload.{Payload}
 use Rattle.gql_tree.specs.Forest.{Forest}
-use Rattle.gql_tree.specs.FirstPayloads.{first_payloads}
+use Rattle.gql_tree.specs.Inline.{inline_payloads}
 use Rattle.gql_tree.specs.Merged.{IsMerged}
 use Rattle.gql_payload.specs.PayloadText.{payload_text}
 use Rattle.gql_payload.specs.ReportText.{report_text}
@@ -42,9 +42,9 @@ syntax_message refusal = codes "Syntax: " ++ parse_name refusal
 
 -- ---- a request that is executed
 
--- the texts of its payloads
+-- the texts of its payloads: tasks are run one after another
 abbrev pub texts : Forest → List (List ℕ)
-texts f = map payload_text (first_payloads f)
+texts f = map payload_text (inline_payloads f)
 
 -- the multipart body of these texts
 abbrev pub body : Forest → List ℕ

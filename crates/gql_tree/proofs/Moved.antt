@@ -98,7 +98,7 @@ key_same (Name m) (Name n) h = ap Name ((bytes_eq-Decides m n).0 h)
 same_bytes : (n : List ℕ) → bytes_eq n n ≡ true
 same_bytes n = (bytes_eq-Decides n n).1 refl
 
-same_key-refl : (k : Key) → same_key k k ≡ true
+pub same_key-refl : (k : Key) → same_key k k ≡ true
 same_key-refl (Index i) = (Decides-eqb i i).1 refl
 same_key-refl (Name n) = same_bytes n
 
@@ -106,6 +106,16 @@ same_key-refl (Name n) = same_bytes n
 pub moved-append : (path : List Key) (a : Marks) (q : List Key) → moved path a (path ++ q) ≡ a q
 moved-append [] a q = refl
 moved-append (k ∷ ks) a q = ap (λ b. cond b (moved ks a (ks ++ q)) None) (same_key-refl k) ∙ moved-append ks a q
+
+-- what is moved stands behind the path
+behind_by : (b : Bool) (k l : Key) (ks ls : List Key) (a : Marks) (m : Mark) → same_key k l ≡ b → (moved ks a ls ≡ Some m → (q : List Key) × (ls ≡ ks ++ q) × (a q ≡ Some m)) → cond b (moved ks a ls) None ≡ Some m → (q : List Key) × (l ∷ ls ≡ k ∷ (ks ++ q)) × (a q ≡ Some m)
+behind_by true k l ks ls a m e h g = let p = h g in (p.0, (λ i. sym (key_same k l e) i ∷ p.1 i), p.2)
+behind_by false k l ks ls a m e h g = absurd (cc)
+
+pub moved_behind : (path p : List Key) (a : Marks) (m : Mark) → moved path a p ≡ Some m → (q : List Key) × (p ≡ path ++ q) × (a q ≡ Some m)
+moved_behind [] p a m h = (p, refl, h)
+moved_behind (k ∷ ks) [] a m h = absurd (cc)
+moved_behind (k ∷ ks) (l ∷ ls) a m h = behind_by (same_key k l) k l ks ls a m refl (moved_behind ks ls a m) h
 
 abbrev at_path : List Key → Option Value → Option Mark
 at_path path o = option_map (λ w. mark_of (out-Value w)) (option_and_then (λ w. find w path) o)

@@ -42,3 +42,8 @@ numbered_after f ns = map (λ m. m.work) (end_all (start f) ns).made
 abbrev pub TasksAreOfThePast : Type 0
 TasksAreOfThePast = (f g : Forest) (ns : List ℕ) → SameSoFar (ended_after f ns) f g
     → (ended_after g ns ≡ ended_after f ns) × (times g ns ≡ times f ns) × (numbered_after g ns ≡ numbered_after f ns)
+
+-- the payloads after some events are those of each well-formed forest that is the same so far
+abbrev pub PayloadsAreOfThePast : Type 0
+PayloadsAreOfThePast = (f g : Forest) (ns : List ℕ) → IsWellFormed f → IsWellFormed g → SameSoFar (ended_after f ns) f g
+    → payloads g (times g ns) ≡ payloads f (times f ns)

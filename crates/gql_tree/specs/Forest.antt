@@ -1,5 +1,9 @@
 -- A region with, below it, the regions of the tasks that it made, and so on down.
 use Rattle.std.specs.Prelude.{ℕ, zero, suc, ◌+◌, ◌-◌, List, [], ◌∷◌, ◌++◌, map, flat_map}
+use Rattle.gql_tree.specs.declared.value.Value.{Value}
+use Rattle.gql_tree.specs.declared.value.Value.TheVariants as v
+use Rattle.gql_tree.specs.declared.delivery.Outcome.{Outcome}
+use Rattle.gql_tree.specs.declared.delivery.Outcome.TheVariants.{Good, Failed}
 use Rattle.gql_tree.specs.declared.delivery.Stream.{Stream}
 use Rattle.gql_tree.specs.declared.delivery.RegionResult.{RegionResult}
 use Rattle.gql_tree.specs.declared.delivery.TaskWork.{TaskWork}
@@ -14,6 +18,11 @@ mutual
   pub data Branches : Type 0 where
     none : Branches
     more : TaskWork → Forest → Branches → Branches
+
+-- the value that a region gives: one that failed gives null, and a response of it alone has null for its `data`
+abbrev pub outcome_value : Outcome → Value
+outcome_value (Good x) = x
+outcome_value Failed = v.Null
 
 -- the region at the root
 abbrev pub region : Forest → RegionResult

@@ -15,8 +15,7 @@ use Rattle.gql_tree.specs.Flat.{Mark, list, flat}
 use Rattle.gql_tree.specs.Typed.{IsTypedValue}
 use Rattle.gql_tree.specs.Order.{group_cmp, fault_cmp, failure_cmp}
 use Rattle.gql_tree.specs.Ordered.{ordered}
-use Rattle.gql_tree.specs.Forest.{Forest, Branches, grown, none, more}
-use Rattle.gql_tree.specs.FirstPayloads.{outcome_value}
+use Rattle.gql_tree.specs.Forest.{Forest, Branches, grown, none, more, outcome_value}
 use Rattle.gql_tree.specs.Fate.{is_good, ItemRun, Scope, scope_of, groups_of, is_ok, is_delivered, is_announced, items_run, items_of_stream, is_item_delivered}
 
 -- ---- what is delivered

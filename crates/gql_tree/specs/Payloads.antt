@@ -21,8 +21,7 @@ use Rattle.gql_tree.specs.Keys.{same_fragment}
 use Rattle.gql_tree.specs.Fate.{same_path}
 use Rattle.gql_tree.specs.Order.{path_cmp}
 use Rattle.gql_tree.specs.Ordered.{ordered}
-use Rattle.gql_tree.specs.Forest.{Forest, region}
-use Rattle.gql_tree.specs.FirstPayloads.{outcome_value}
+use Rattle.gql_tree.specs.Forest.{Forest, region, outcome_value}
 use Rattle.gql_tree.specs.Times.{Time, is_at, has_time}
 use Rattle.gql_tree.specs.Course.{Schedule, Awaited, at_first, by_owners, by_stream, Arrival, Course, course}
 

@@ -16,8 +16,7 @@ use Rattle.gql_tree.specs.declared.delivery.TaskWork.{TaskWork}
 use Rattle.gql_tree.specs.declared.delivery.TaskWork.TheVariants.{Fields, Item}
 use Rattle.gql_tree.specs.Keys.{same_lists, same_key, same_fragment}
 use Rattle.gql_tree.specs.Flat.{Mark, object, list, flat, members_of}
-use Rattle.gql_tree.specs.Forest.{Forest, Branches, grown, none, more, tasks_of}
-use Rattle.gql_tree.specs.FirstPayloads.{outcome_value}
+use Rattle.gql_tree.specs.Forest.{Forest, Branches, grown, none, more, tasks_of, outcome_value}
 use Rattle.gql_tree.specs.Fate.{is_good, Scope, scope_of, parent_of, above, same_path}
 
 -- ---- regions where they lie

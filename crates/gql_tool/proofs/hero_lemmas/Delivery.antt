@@ -11,7 +11,7 @@ use Rattle.gql_tree.specs.Same.{SameFlat}
 use Rattle.gql_tree.specs.Order.{failure_cmp}
 use Rattle.gql_tree.specs.Ordered.{placed, ordered}
 use Rattle.gql_tree.specs.Merged.{Part, Delivery, HasMark}
-use Rattle.gql_merge.proofs.PartMarks.{marks_alone, marks_united}
+use Rattle.gql_tool.proofs.hero_lemmas.PartMarks.{marks_alone, marks_united}
 use Rattle.gql_tool.specs.hero.Hero.{hero_path, hero_object}
 use Rattle.gql_tool.proofs.hero_lemmas.Flat.{Members, NamesApart}
 use Rattle.gql_tool.proofs.hero_lemmas.Union.{hero_union}

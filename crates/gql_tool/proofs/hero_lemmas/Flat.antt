@@ -11,13 +11,12 @@ use Rattle.gql_tree.specs.declared.Value.TheVariants.{outs-Object, outs-Null}
 use Rattle.gql_tree.specs.declared.Value.TheVariants as v
 use Rattle.gql_tree.specs.Names.{named}
 use Rattle.gql_tree.specs.Flat.{Mark, object, mark_of, below, find, flat}
-use Rattle.gql_tree.specs.Union.{Clashes, moved}
 use Rattle.gql_tool.specs.declared.hero.shape.LeafName.{LeafName}
 use Rattle.gql_tool.specs.declared.hero.shape.Leaf.{Leaf}
 use Rattle.gql_tool.specs.declared.hero.tables.Person.{Person}
 use Rattle.gql_tool.specs.hero.Shape.{same_name, times}
 use Rattle.gql_tool.specs.hero.Operation.{name_of}
-use Rattle.gql_tool.specs.hero.Hero.{hero_path, hero_object, leaf_member, leaf_members}
+use Rattle.gql_tool.specs.hero.Hero.{hero_object, leaf_member, leaf_members}
 use Rattle.gql_tool.proofs.hero_lemmas.Once.{times-cons, count_true, count_none, names-differ, same_name-self, fewer}
 
 abbrev pub Members : Type 0
@@ -56,27 +55,9 @@ NamesApart ms ns = (s : List ℕ) → (named s ms ≡ None) ⊎ (named s ns ≡ 
 pub gone : {A : Type 0} (o : Option Mark) (m : Mark) → o ≡ None → o ≡ Some m → A
 gone o m none some = absurd (cc)
 
-apart_below : (ms ns : Members) → NamesApart ms ns → (rest : List Key) (m n : Mark) → flat (v.Object ms) rest ≡ Some m → flat (v.Object ns) rest ≡ Some n → m ≡ n
-apart_below ms ns apart [] m n hm hn = let a = flat-here ms in let b = flat-here ns in cc
-apart_below ms ns apart (Index i ∷ rest) m n hm hn = gone _ m (flat-index ms i rest) hm
-apart_below ms ns apart (Named_key s ∷ rest) m n hm hn = elim (apart s) [
-  | inl none ↦ gone _ m (flat-name ms s rest ∙ ap (at_path rest) none) hm
-  | inr none ↦ gone _ n (flat-name ns s rest ∙ ap (at_path rest) none) hn
-]
-
-under_hero : (b : Bool) (ms ns : Members) → NamesApart ms ns → (rest : List Key) (m n : Mark) → at_path rest (cond b (Some (v.Object ms)) None) ≡ Some m → cond b (flat (v.Object ns) rest) None ≡ Some n → m ≡ n
-under_hero true ms ns apart rest m n hm hn = apart_below ms ns apart rest m n hm hn
-under_hero false ms ns apart rest m n hm hn = absurd (cc)
-
--- a hero and the fields that are put into it don't clash
-pub hero-fits : (ms ns : Members) → NamesApart ms ns → Clashes (flat (hero_object (v.Object ms))) (moved hero_path (flat (v.Object ns))) → ⊥
-hero-fits ms ns apart ([], m, n, hm, hn, other) = absurd (cc)
-hero-fits ms ns apart (Index i ∷ rest, m, n, hm, hn, other) = absurd (cc)
-hero-fits ms ns apart (Named_key s ∷ rest, m, n, hm, hn, other) = other (under_hero (bytes_eq (codes "hero") s) ms ns apart rest m n (sym (flat-hero (v.Object ms) s rest) ∙ hm) hn)
-
 -- ---- leaves have names apart
 
-no_named : (a : LeafName) (p : Person) (ls : List Leaf) → times a ls ≡ 0 → named (name_of a) (leaf_members p ls) ≡ None
+pub no_named : (a : LeafName) (p : Person) (ls : List Leaf) → times a ls ≡ 0 → named (name_of a) (leaf_members p ls) ≡ None
 no_named a p [] h = refl
 no_named a p (l ∷ ls) h =
     let q = count_none (same_name l.name a) (times a ls) (sym (times-cons a l ls) ∙ h) in

@@ -1,20 +1,17 @@
--- The forests of documents of heroes: one task at most.
-use Rattle.std.proofs.Common.{◌≡◌, refl, sym, ap, ◌∙◌, subst, inl, inr, ℕ, zero, suc, ◌+◌, ◌*◌, ◌<◌, Bool, true, false, List, [], ◌∷◌, ◌++◌, length, Option, Some, None, arith}
-use Rattle.std.specs.Prelude.{◌||◌, slice_get, codes}
+-- The forests of documents of heroes: one task at most, which is run behind the initial region.
+use Rattle.std.proofs.Common.{◌≡◌, refl, sym, ap, ◌∙◌, subst, ℕ, zero, suc, ◌+◌, ◌*◌, ◌<◌, Bool, true, false, List, [], ◌∷◌, ◌++◌, length, Option, Some, None, arith}
+use Rattle.std.specs.Prelude.{◌||◌, slice_get}
 use Rattle.gql_tree.specs.declared.Key.{Key}
 use Rattle.gql_tree.specs.declared.Spot.{Spot}
 use Rattle.gql_tree.specs.declared.Fault.{Fault}
 use Rattle.gql_tree.specs.declared.Group.{Group}
-use Rattle.gql_tree.specs.declared.Value.{Value}
+use Rattle.gql_tree.specs.declared.Payload.{Payload}
 use Rattle.gql_tree.specs.declared.Value.TheVariants as v
-use Rattle.gql_tree.specs.declared.Outcome.TheVariants.{Good, Failed}
+use Rattle.gql_tree.specs.declared.Outcome.TheVariants.{Good}
 use Rattle.gql_tree.specs.declared.RegionResult.{RegionResult}
 use Rattle.gql_tree.specs.declared.TaskWork.{TaskWork}
 use Rattle.gql_tree.specs.declared.TaskWork.TheVariants.{Fields}
-use Rattle.gql_tree.specs.Flat.{object, flat}
-use Rattle.gql_tree.specs.Union.{Clashes, moved}
 use Rattle.gql_tree.specs.Forest.{Forest, Branches, grown, none, more}
-use Rattle.gql_merge.specs.Lone.{IsLone}
 use Rattle.gql_model.specs.declared.Node.{Node}
 use Rattle.gql_model.specs.Complete.{Part, fault_at, is_bubble}
 use Rattle.gql_model.specs.Region.{initial_region, task_region}
@@ -31,12 +28,11 @@ use Rattle.gql_tool.specs.declared.hero.tables.HeroCell.TheVariants as hero_cell
 use Rattle.gql_tool.specs.hero.Shape.{deferred_leaves_of}
 use Rattle.gql_tool.specs.hero.Operation.{nodes_of}
 use Rattle.gql_tool.specs.hero.Service.{service, query}
-use Rattle.gql_tool.specs.hero.Hero.{hero_path, is_required, cell_under, cell_part, leaf_path, leaf_part, leaf_members, leaf_faults, some_bubble, hero_object, EachOnce, RefStands}
+use Rattle.gql_tool.specs.hero.Hero.{hero_path, is_required, cell_under, cell_part, leaf_path, leaf_part, leaf_members, leaf_faults, some_bubble, hero_object, announcing, completing_by, standing_payloads, person_payloads_by, EachOnce, RefStands}
 use Rattle.gql_tool.proofs.hero_lemmas.Fields.{leaf_details}
 use Rattle.gql_tool.proofs.hero_lemmas.Met.{document, nodes, fragment_id, fragment_in}
-use Rattle.gql_tool.proofs.hero_lemmas.Region.{person, initial_region-person, group_region-leaves, leaves_region_by}
-use Rattle.gql_tool.proofs.hero_lemmas.Payloads.{region_by, null_region, with_hero, region-null, region-error}
-use Rattle.gql_tool.proofs.hero_lemmas.Flat.{flat-here, flat-hero, hero-fits, NamesApart-leaves}
+use Rattle.gql_tool.proofs.hero_lemmas.Region.{person, initial_region-person, group_region-leaves, leaves_region_by, found_of, hero_value, unless}
+use Rattle.gql_tool.proofs.hero_lemmas.OneTask.{IsRun, alone_run, good_run, failed_run}
 
 -- ---- a bubbling leaf has a fault
 
@@ -84,7 +80,7 @@ module _ (t : HeroTables) (spot hero : Spot) (leaves : List Leaf) (n : ℕ) (p :
 
   -- the initial region, by whether the hero's leaves bubble
   abbrev pub first : Bool → Option Deferred → RegionResult
-  first = region_by t spot hero leaves n p is
+  first b o = record { outcome = Good (hero_value t spot hero leaves n p is b); faults = leaf_faults p leaves; fragments = unless t spot hero leaves n p is b (found_of t spot hero leaves n p is o).fragments; groups = unless t spot hero leaves n p is b (found_of t spot hero leaves n p is o).groups; streams = [] }
 
   -- the group of deferred leaves, and its region
   abbrev pub group_of : List Leaf → Group
@@ -127,63 +123,47 @@ module _ (t : HeroTables) (spot hero : Spot) (leaves : List Leaf) (n : ℕ) (p :
       ∙ (ap (λ k. forest_below (run o) k (first (some_bubble p leaves) o)) (two_deep (length (ns o)))
       ∙ grown-first (2 * length (ns o)) (some_bubble p leaves) o)
 
-  -- ---- it is lone
+  -- ---- what is sent of it
 
-  later_makes_none : (b : Bool) (ls : List Leaf) → ((later b ls).groups ≡ []) × ((later b ls).streams ≡ [])
-  later_makes_none true ls = (refl, refl)
-  later_makes_none false ls = (refl, refl)
+  -- a forest of deferred leaves, by whether they bubble
+  abbrev pub forest_with : Option (List ℕ) → Spot → Bool → List Leaf → Forest
+  forest_with label at b ls = grown (first false (Some (record { label = label; spot = at; leaves = ls }))) (waiting b ls)
 
-  later-fragments : (b : Bool) (ls : List Leaf) → (later b ls).fragments ≡ []
-  later-fragments true ls = refl
-  later-fragments false ls = refl
+  abbrev both_payloads : Option (List ℕ) → Bool → List Leaf → List Payload
+  both_payloads label b ls = announcing (v.Object (leaf_members p leaves)) (leaf_faults p leaves) label ∷ completing_by b (v.Object (leaf_members p ls)) (leaf_faults p ls) ∷ []
 
-  later-good : (b : Bool) (ls : List Leaf) (x : Value) → (later b ls).outcome ≡ Good x → v.Object (leaf_members p ls) ≡ x
-  later-good true ls x h = absurd (cc)
-  later-good false ls x h = cc
+  run-waiting : (label : Option (List ℕ)) (at : Spot) (b : Bool) (l : Leaf) (ls : List Leaf) → IsRun (forest_with label at b (l ∷ ls)) (both_payloads label b (l ∷ ls))
+  run-waiting label at true l ls =
+      failed_run (hero_object (v.Object (leaf_members p leaves))) (leaf_faults p leaves) (fragment_id (length leaves)) label (person n) (leaf_details (2 + length leaves + 1) (Some (fragment_id (length leaves))) (l ∷ ls)) (leaf_faults p (l ∷ ls))
+  run-waiting label at false l ls =
+      good_run (hero_object (v.Object (leaf_members p leaves))) (leaf_faults p leaves) (fragment_id (length leaves)) label (person n) (leaf_details (2 + length leaves + 1) (Some (fragment_id (length leaves))) (l ∷ ls)) (leaf_faults p (l ∷ ls)) (v.Object (leaf_members p (l ∷ ls)))
 
-  later-blamed : (b : Bool) (ls : List Leaf) → some_bubble p ls ≡ b → (later b ls).outcome ≡ Failed → (later b ls).faults ≡ [] → ⊥
-  later-blamed true ls e h = leaves_blamed p ls e
-  later-blamed false ls e h = absurd (cc)
+  run-deferred : (label : Option (List ℕ)) (at : Spot) (ls : List Leaf) → (let o : Option Deferred = Some (record { label = label; spot = at; leaves = ls }) in IsRun (forest_by false o) (standing_payloads p leaves o))
+  run-deferred label at [] = alone_run (Good (hero_object (v.Object (leaf_members p leaves)))) (leaf_faults p leaves) (fragment_in (length leaves) (record { label = label; spot = at; leaves = [] }) ∷ [])
+  run-deferred label at (l ∷ ls) = run-waiting label at (some_bubble p (l ∷ ls)) l ls
 
-  stands : flat (hero_object (v.Object (leaf_members p leaves))) hero_path ≡ Some object
-  stands = flat-hero (v.Object (leaf_members p leaves)) (codes "hero") [] ∙ flat-here (leaf_members p leaves)
-
-  lone_waiting : (label : Option (List ℕ)) (at : Spot) (ls : List Leaf) → (let o : Option Deferred = Some (record { label = label; spot = at; leaves = ls }) in EachOnce (document spot hero leaves o) → IsLone (forest_by false o))
-  lone_waiting label at [] once = inl (record { first = first false (Some (record { label = label; spot = at; leaves = [] })); forest = refl; makes_none = (refl, refl) })
-  lone_waiting label at (l ∷ ls) once =
-      let def : Deferred = record { label = label; spot = at; leaves = l ∷ ls } in
-      let b = some_bubble p (l ∷ ls) in
-      inr (record {
-        first = first false (Some def);
-        later = later b (l ∷ ls);
-        group = group_of (l ∷ ls);
-        fragment = fragment_in (length leaves) def;
-        value = hero_object (v.Object (leaf_members p leaves));
-        forest = refl;
-        good = refl;
-        fragments = refl;
-        groups = refl;
-        streams = refl;
-        outermost = refl;
-        owners = refl;
-        path = refl;
-        stands = stands;
-        makes_none = later_makes_none b (l ∷ ls);
-        no_fragments = later-fragments b (l ∷ ls);
-        fits = λ x h. subst (λ (y : Value). Clashes (flat (hero_object (v.Object (leaf_members p leaves)))) (moved hero_path (flat y)) → ⊥) (later-good b (l ∷ ls) x h) (hero-fits (leaf_members p leaves) (leaf_members p (l ∷ ls)) (NamesApart-leaves p leaves (l ∷ ls) once));
-        blamed = λ h e. later-blamed b (l ∷ ls) refl h e;
-      })
-
-  lone_by : (b : Bool) (o : Option Deferred) → EachOnce (document spot hero leaves o) → IsLone (forest_by b o)
-  lone_by true o once = inl (record { first = first true o; forest = refl; makes_none = (refl, refl) })
-  lone_by false None once = inl (record { first = first false None; forest = refl; makes_none = (refl, refl) })
-  lone_by false (Some def) once = lone_waiting def.label def.spot def.leaves once
+  pub run-person : (b : Bool) (o : Option Deferred) → IsRun (forest_by b o) (person_payloads_by b p leaves o)
+  run-person true o = alone_run (Good (hero_object v.Null)) (leaf_faults p leaves) []
+  run-person false None = alone_run (Good (hero_object (v.Object (leaf_members p leaves)))) (leaf_faults p leaves) []
+  run-person false (Some def) = run-deferred def.label def.spot def.leaves
 
 -- a hero that is a person
 pub forest-person : (t : HeroTables) (d : HeroDocument) (n : ℕ) (p : Person) (is : slice_get t.persons n ≡ Some p) → t.hero ≡ hero_cells.Ref n → EachOnce d → forest (service t) (nodes_of d) query ≡ forest_by t d.spot d.hero d.leaves n p is (some_bubble p d.leaves) d.deferred
 forest-person t d n p is ref once = forest-of t d.spot d.hero d.leaves n p is d.deferred once ref
 
 -- a hero that is null or an error
+abbrev pub null_region : List Fault → RegionResult
+null_region fs = record { outcome = Good (hero_object v.Null); faults = fs; fragments = []; groups = []; streams = [] }
+
+abbrev pub with_hero : HeroTables → HeroCell → HeroTables
+with_hero t c = record t { hero = c }
+
+pub region-null : (t : HeroTables) (d : HeroDocument) → initial_region (service (with_hero t hero_cells.Null)) (nodes_of d) query ≡ null_region []
+region-null t d = refl
+
+pub region-error : (t : HeroTables) (d : HeroDocument) (m : List ℕ) → initial_region (service (with_hero t (hero_cells.Error m))) (nodes_of d) query ≡ null_region (fault_at d.hero m hero_path ∷ [])
+region-error t d m = refl
+
 forest-region : (t : HeroTables) (d : HeroDocument) (fs : List Fault) → initial_region (service t) (nodes_of d) query ≡ null_region fs → forest (service t) (nodes_of d) query ≡ grown (null_region fs) none
 forest-region t d fs is =
     let run = task_region (service t) (nodes_of d) in
@@ -206,16 +186,20 @@ person_at [] n h = absurd (omega arith)
 person_at (p ∷ ps) zero h = (p, refl)
 person_at (p ∷ ps) (suc n) h = person_at ps n (omega arith)
 
-alone : (f : Forest) (fs : List Fault) → f ≡ grown (null_region fs) none → IsLone f
-alone f fs is = inl (record { first = null_region fs; forest = is; makes_none = (refl, refl) })
+-- a run of a forest, whatever it is
+abbrev Runs : Forest → Type 0
+Runs f = (ps : List Payload) × IsRun f ps
 
-lone_cell : (t : HeroTables) (d : HeroDocument) (c : HeroCell) → t.hero ≡ c → EachOnce d → RefStands t → IsLone (forest (service t) (nodes_of d) query)
-lone_cell t d hero_cells.Null is once there = alone _ [] (forest-null t d is)
-lone_cell t d (hero_cells.Error m) is once there = alone _ (fault_at d.hero m hero_path ∷ []) (forest-error t d m is)
-lone_cell t d (hero_cells.Ref n) is once there =
+run_null : (fs : List Fault) → Runs (grown (null_region fs) none)
+run_null fs = (_, alone_run (Good (hero_object v.Null)) fs [])
+
+run_cell : (t : HeroTables) (d : HeroDocument) (c : HeroCell) → t.hero ≡ c → EachOnce d → RefStands t → Runs (forest (service t) (nodes_of d) query)
+run_cell t d hero_cells.Null is once there = subst Runs (sym (forest-null t d is)) (run_null [])
+run_cell t d (hero_cells.Error m) is once there = subst Runs (sym (forest-error t d m is)) (run_null (fault_at d.hero m hero_path ∷ []))
+run_cell t d (hero_cells.Ref n) is once there =
     let found = person_at t.persons n (there n is) in
-    subst IsLone (sym (forest-person t d n found.0 found.1 is once)) (lone_by t d.spot d.hero d.leaves n found.0 found.1 (some_bubble found.0 d.leaves) d.deferred once)
+    subst Runs (sym (forest-person t d n found.0 found.1 is once)) (_, run-person t d.spot d.hero d.leaves n found.0 found.1 (some_bubble found.0 d.leaves) d.deferred)
 
--- a document's forest makes one task, or none
-pub hero_is_lone : (t : HeroTables) (d : HeroDocument) → EachOnce d → RefStands t → IsLone (forest (service t) (nodes_of d) query)
-hero_is_lone t d = lone_cell t d t.hero refl
+-- the forest of every hero can be run so
+pub hero_runs : (t : HeroTables) (d : HeroDocument) → EachOnce d → RefStands t → Runs (forest (service t) (nodes_of d) query)
+hero_runs t d = run_cell t d t.hero refl

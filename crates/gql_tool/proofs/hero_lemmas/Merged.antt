@@ -1,11 +1,10 @@
 -- What is merged from the payloads of a document of heroes, beside its plain execution.
 use Rattle.std.proofs.Common.{◌≡◌, refl, sym, ap, ◌∙◌, subst, ℕ, ◌+◌, Bool, true, false, List, [], ◌∷◌, ◌++◌, map, length, Option, Some, None}
-use Rattle.std.specs.Prelude.{◌||◌, slice_get, filter, flat_map, is_some, codes}
-use Rattle.std.proofs.lemmas.List.Elements.{filter-append, filter_agree}
+use Rattle.std.specs.Prelude.{◌||◌, slice_get, filter, flat_map, codes}
+use Rattle.std.proofs.lemmas.List.Elements.{filter-append}
 use Rattle.std.proofs.lemmas.Grind.{flat_map-append}
 use Rattle.gql_tree.specs.declared.Key.{Key}
 use Rattle.gql_tree.specs.declared.Key.TheVariants.{Name as Named_key}
-use Rattle.gql_tree.specs.declared.Path.{Path}
 use Rattle.gql_tree.specs.declared.Spot.{Spot}
 use Rattle.gql_tree.specs.declared.Fault.{Fault}
 use Rattle.gql_tree.specs.declared.FragId.{FragId}
@@ -16,8 +15,7 @@ use Rattle.gql_tree.specs.Flat.{flat}
 use Rattle.gql_tree.specs.Same.{SameFlat}
 use Rattle.gql_tree.specs.Order.{fault_cmp, failure_cmp}
 use Rattle.gql_tree.specs.Ordered.{ordered}
-use Rattle.gql_tree.specs.Forest.{Forest, Branches, grown, none}
-use Rattle.gql_tree.specs.FirstPayloads.{outcome_value}
+use Rattle.gql_tree.specs.Forest.{Forest, Branches, grown, none, outcome_value}
 use Rattle.gql_tree.specs.Merged.{Part, Delivery, delivery, IsMerged}
 use Rattle.gql_merge.proofs.Totals.{faults_total}
 use Rattle.gql_model.specs.Complete.{fault_at, is_bubble, Part as Done}
@@ -41,11 +39,10 @@ use Rattle.gql_model.proofs.Kept.{kept-ordered, kept-same}
 use Rattle.gql_tool.proofs.hero_lemmas.Fields.{leaf_details, append-nil}
 use Rattle.gql_tool.proofs.hero_lemmas.Met.{document, fragment_id}
 use Rattle.gql_tool.proofs.hero_lemmas.Region.{person}
-use Rattle.gql_tool.proofs.hero_lemmas.Payloads.{null_region}
 use Rattle.gql_tool.proofs.hero_lemmas.Flat.{Members, NamesApart, NamesApart-leaves, flat-hero, flat-null}
-use Rattle.gql_tool.proofs.hero_lemmas.Forests.{first, waiting, forest_by, forest-person, forest-null, forest-error, person_at}
+use Rattle.gql_tool.proofs.hero_lemmas.Forests.{first, waiting, forest_by, forest-person, forest-null, forest-error, person_at, null_region}
 use Rattle.gql_tool.proofs.hero_lemmas.Plain.{plain-person, plain-null, plain-error, map-append}
-use Rattle.gql_merge.proofs.Deliveries.{good_delivered, failed_delivered}
+use Rattle.gql_tool.proofs.hero_lemmas.Deliveries.{good_delivered, failed_delivered}
 use Rattle.gql_tool.proofs.hero_lemmas.Delivery.{of_parts, Marks, one_same, two_same, some_ordered}
 
 -- ---- all leaves together

@@ -7,7 +7,7 @@ use Rattle.gql_tree.proofs.Names.{has_name-take}
 use Rattle.std.specs.Prelude.{◌&&◌}
 use Rattle.std.specs.List.{AllByRecursion as Each}
 use Rattle.std.specs.Str.{bytes_eq}
-use Rattle.std.proofs.lemmas.List.Sums.{sum_by-append, sum_by-cons}
+use Rattle.std.proofs.lemmas.List.Sums.{sum_by-cons}
 use Rattle.gql_tree.specs.declared.FragId.{FragId}
 use Rattle.gql_tree.specs.declared.Occurrence.{Occurrence}
 use Rattle.gql_tree.specs.Names.{has_name, apart}
@@ -59,10 +59,6 @@ times-cons a l ls = sum_by-cons (λ (x : Leaf). cond (same_name x.name a) 1 0) l
     by_test : (b : Bool) → cond b 1 0 + times a ls ≡ cond b (suc (times a ls)) (times a ls)
     by_test true = omega arith
     by_test false = omega arith
-
--- of leaves and further ones
-pub times-append : (a : LeafName) (ls ms : List Leaf) → times a (ls ++ ms) ≡ times a ls + times a ms
-times-append a ls ms = sum_by-append (λ (x : Leaf). cond (same_name x.name a) 1 0) ls ms
 
 none_named : (a : LeafName) (k : ℕ) (tag : Option FragId) (ls : List Leaf) → times a ls ≡ 0 → Each (Other {A = Occurrence} (name_of a)) (leaf_pairs k tag ls)
 none_named a k tag [] h = tt

@@ -45,7 +45,7 @@ use Rattle.gql_tool.proofs.hero_lemmas.Met.{document, nodes, hero_occurrence}
 use Rattle.gql_tool.proofs.hero_lemmas.Once.{KeysApart-leaves}
 use Rattle.gql_tool.proofs.hero_lemmas.Leaf.{field_part-leaf}
 use Rattle.gql_tool.proofs.hero_lemmas.Region.{person, leaves_part, with_parts-leaves, field_parts-leaves, root_part, root_region, initial_region-person, person_region}
-use Rattle.gql_tool.proofs.hero_lemmas.Payloads.{null_region, with_hero}
+use Rattle.gql_tool.proofs.hero_lemmas.Forests.{null_region, with_hero}
 
 -- ---- nodes
 

@@ -22,7 +22,7 @@ use Rattle.gql_tree.specs.Json.{put_all, data_of}
 use Rattle.gql_tree.specs.Names.{apart}
 use Rattle.gql_tree.specs.Typed.{all_members, is_typed}
 use Rattle.gql_payload.specs.PayloadText.{present, unless_empty, if_some, key_data, path_data, location_data, locations_data, fault_data, pending_data, entry_data, completed_data, payload_data}
-use Rattle.gql_tree.specs.FirstPayloads.{first_payloads}
+use Rattle.gql_tree.specs.Inline.{inline_payloads}
 use Rattle.gql_tree.proofs.Json.{data_Null, data_Int, data_Text, data_Object}
 use Rattle.gql_tree.proofs.Typed.{typed_Null, typed_Int, typed_Text, typed_Object, and_true}
 use Rattle.gql_tree.specs.Sound.{IsSound}
@@ -339,7 +339,7 @@ module _ (t : HeroTables) (d : HeroDocument) (once : EachOnce d) (there : RefSta
   later_once : Once (deferred_leaves_of d.deferred)
   later_once name = (let h = once name in omega (arith, h))
 
-  by_cell : (c : HeroCell) → t.hero ≡ c → HeroFits c → EachWritten (first_payloads (forest (service t) (nodes_of d) query))
+  by_cell : (c : HeroCell) → t.hero ≡ c → HeroFits c → EachWritten (inline_payloads (forest (service t) (nodes_of d) query))
   by_cell hero_cells.Null is h = subst EachWritten (sym (payloads-null t d is)) (single_fits v.Null [] null_fits tt, tt)
   by_cell (hero_cells.Error m) is h = subst EachWritten (sym (payloads-error t d m is)) (single_fits v.Null (fault_at d.hero m hero_path ∷ []) null_fits (fault_fits d.hero m hero_path document.hero h hero_path_fits, tt), tt)
   by_cell (hero_cells.Ref n) is h =
@@ -347,7 +347,7 @@ module _ (t : HeroTables) (d : HeroDocument) (once : EachOnce d) (there : RefSta
       subst EachWritten (sym (payloads-person t d n found.0 found.1 is once))
       (person_fit (some_bubble found.0 d.leaves) found.0 d.leaves d.deferred (fits_at t.persons n found.0 found.1 tables.persons) first_once later_once document.leaves document.deferred document.fragment)
 
-  pub hero_payloads_can_be_written : EachWritten (first_payloads (forest (service t) (nodes_of d) query))
+  hero_payloads_can_be_written : EachWritten (inline_payloads (forest (service t) (nodes_of d) query))
   hero_payloads_can_be_written = by_cell t.hero refl tables.hero
 
 -- ---- they are read back
@@ -356,12 +356,17 @@ each_read_back : (ps : List Payload) → Each IsSound ps → Each (λ p. depth (
 each_read_back [] sound deep written = tt
 each_read_back (p ∷ ps) sound deep written = (text_back p sound.0 written.0.typed (IsUtf8-compact_text (payload_data p) written.0.utf8) deep.0, each_read_back ps sound.1 deep.1 written.1)
 
--- each payload of a request that is built is read back from its text
-pub hero_payloads_are_read_back : (vars schema tables document : List ℕ) (t : HeroTables) (d : HeroDocument) → IsBuilt vars schema tables document t d → Each IsReadBack (first_payloads (regions t d))
-hero_payloads_are_read_back vars schema tables document t d is =
-    let read = built-read vars schema tables document t d is in
-    let once = built-once vars schema tables document t d is in
-    let stands = built-stands vars schema tables document t d is in
-    let placed = built-placed vars schema tables document t d is in
-    each_read_back (first_payloads (regions t d)) (hero_payloads_make_sense t d once stands placed) (hero_payloads_are_shallow t d once stands)
-    (hero_payloads_can_be_written t d once stands (tables_in-fit tables t read.tables) (read-fits document read.it d read.utf8 read.within read.document read.hero))
+module _ (vars schema tables document : List ℕ) (t : HeroTables) (d : HeroDocument) (is : IsBuilt vars schema tables document t d) where
+  -- each payload of a request that is built can be written
+  pub hero_payloads_are_written : EachWritten (inline_payloads (regions t d))
+  hero_payloads_are_written =
+      let read = built-read vars schema tables document t d is in
+      hero_payloads_can_be_written t d (built-once vars schema tables document t d is) (built-stands vars schema tables document t d is)
+      (tables_in-fit tables t read.tables) (read-fits document read.it d read.utf8 read.within read.document read.hero)
+
+  -- and is read back from its text
+  pub hero_payloads_are_read_back : Each IsReadBack (inline_payloads (regions t d))
+  hero_payloads_are_read_back =
+      let once = built-once vars schema tables document t d is in
+      let stands = built-stands vars schema tables document t d is in
+      each_read_back (inline_payloads (regions t d)) (hero_payloads_make_sense t d once stands (built-placed vars schema tables document t d is)) (hero_payloads_are_shallow t d once stands) hero_payloads_are_written

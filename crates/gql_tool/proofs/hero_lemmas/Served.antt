@@ -6,7 +6,8 @@ use Rattle.serde_json.specs.Data.{depth}
 use Rattle.gql_tree.specs.declared.Payload.{Payload}
 use Rattle.gql_tree.specs.Sound.{IsSound}
 use Rattle.gql_tree.specs.Forest.{Forest}
-use Rattle.gql_tree.specs.FirstPayloads.{first_payloads}
+use Rattle.gql_tree.specs.Typed.{IsTypedPayload}
+use Rattle.gql_tree.specs.Inline.{inline_payloads}
 use Rattle.gql_payload.specs.PayloadText.{payload_data}
 use Rattle.gql_model.specs.declared.syntax.Document.{Document}
 use Rattle.gql_tool.specs.declared.hero.shape.HeroDocument.{HeroDocument}
@@ -18,31 +19,35 @@ use Rattle.gql_tool.specs.Judged.{Executed, Parses, Judged}
 use Rattle.gql_tool.specs.inner.Servable.{IsReadable, CanBeServed}
 use Rattle.gql_tool.specs.hero.Built.{built, regions, regions_of}
 use Rattle.gql_tool.specs.hero.Hero.{IsBuilt, IsOf, Runs, request_of, judgement_of}
-use Rattle.gql_tool.proofs.hero_lemmas.Forests.{hero_is_lone}
-use Rattle.gql_tool.proofs.hero_lemmas.ReadBack.{hero_payloads_are_read_back}
-use Rattle.gql_tool.proofs.hero_lemmas.Reading.{some_map, built-read, built-once, built-stands}
-use Rattle.gql_tool.proofs.hero_lemmas.Responses.{hero_has_a_response}
+use Rattle.gql_tool.proofs.hero_lemmas.Forests.{hero_runs}
+use Rattle.gql_tool.proofs.hero_lemmas.ReadBack.{CanBeWritten, hero_payloads_are_written, hero_payloads_are_read_back}
+use Rattle.gql_tool.proofs.hero_lemmas.Reading.{some_map, built-once, built-stands}
 use Rattle.gql_tool.proofs.hero_lemmas.Sound.{hero_payloads_make_sense, hero_payloads_are_shallow}
 use Rattle.gql_tool.proofs.hero_lemmas.Spots.{built-placed}
-use Rattle.gql_tool.proofs.hero_lemmas.TableTexts.{tables_in-fit}
+use Rattle.gql_tool.proofs.hero_lemmas.WellFormed.{hero_is_well_formed}
 
 all_readable : (ps : List Payload) → Each IsSound ps → Each (λ p. depth (payload_data p) ≤ 127) ps → Each IsReadable ps
 all_readable [] sound shallow = tt
 all_readable (p ∷ ps) sound shallow = ((sound.0, shallow.0), all_readable ps sound.1 shallow.1)
+
+all_typed : (ps : List Payload) → Each CanBeWritten ps → Each IsTypedPayload ps
+all_typed [] written = tt
+all_typed (p ∷ ps) written = (written.0.typed, all_typed ps written.1)
 
 module _ (vars schema tables document : List ℕ) where
   built-served : (t : HeroTables) (d : HeroDocument) → IsBuilt vars schema tables document t d → CanBeServed (regions t d)
   built-served t d is =
       let once = built-once vars schema tables document t d is in
       let stands = built-stands vars schema tables document t d is in
-      let response = hero_has_a_response t d once stands (tables_in-fit tables t (built-read vars schema tables document t d is).tables) in record {
-        lone = hero_is_lone t d once stands;
-        readable = all_readable (first_payloads (regions t d)) (hero_payloads_make_sense t d once stands (built-placed vars schema tables document t d is)) (hero_payloads_are_shallow t d once stands);
+      let placed = built-placed vars schema tables document t d is in
+      let run = (hero_runs t d once stands).1 in
+      let written = hero_payloads_are_written vars schema tables document t d is in record {
+        well_formed = hero_is_well_formed t d once stands placed;
+        complete = run.complete;
+        few = run.few;
+        typed = all_typed (inline_payloads (regions t d)) written;
+        readable = all_readable (inline_payloads (regions t d)) (hero_payloads_make_sense t d once stands placed) (hero_payloads_are_shallow t d once stands);
         read_back = hero_payloads_are_read_back vars schema tables document t d is;
-        value = response.0;
-        errors = response.1;
-        failures = response.2;
-        merged = response.3;
       }
 
   -- the regions of a request can be served

@@ -25,7 +25,7 @@ use Rattle.gql_tree.specs.declared.Payload.{Payload}
 use Rattle.gql_tree.specs.Json.{put_all, data_of}
 use Rattle.gql_payload.specs.PayloadText.{present, object_with, unless_empty, if_some, key_data, path_data, location_data, locations_data, fault_data, pending_data, entry_data, completed_data, payload_data}
 use Rattle.gql_tree.specs.Sound.{IsSound, IsLocated, is_object, is_object_or_null}
-use Rattle.gql_tree.specs.FirstPayloads.{first_payloads}
+use Rattle.gql_tree.specs.Inline.{inline_payloads}
 use Rattle.gql_tree.proofs.Json.{data_Null, data_Int, data_Text, data_Object}
 use Rattle.gql_model.specs.Complete.{Part, fault_at, value_in}
 use Rattle.gql_model.specs.Operations.{forest}
@@ -52,14 +52,14 @@ module _ (P : Payload → Type 0) (t : HeroTables) (d : HeroDocument) (once : Ea
   abbrev Each : List Payload → Type 0
   Each ps = AllByRecursion P ps
 
-  by_cell : (c : HeroCell) → t.hero ≡ c → P (single v.Null []) → ((m : List ℕ) → P (single v.Null (fault_at d.hero m hero_path ∷ []))) → ((p : Person) → Each (person_payloads p d)) → Each (first_payloads (forest (service t) (nodes_of d) query))
+  by_cell : (c : HeroCell) → t.hero ≡ c → P (single v.Null []) → ((m : List ℕ) → P (single v.Null (fault_at d.hero m hero_path ∷ []))) → ((p : Person) → Each (person_payloads p d)) → Each (inline_payloads (forest (service t) (nodes_of d) query))
   by_cell hero_cells.Null is null error person = subst Each (sym (payloads-null t d is)) (null, tt)
   by_cell (hero_cells.Error m) is null error person = subst Each (sym (payloads-error t d m is)) (error m, tt)
   by_cell (hero_cells.Ref n) is null error person =
       let found = person_at t.persons n (there n is) in
       subst Each (sym (payloads-person t d n found.0 found.1 is once)) (person found.0)
 
-  each_payload : P (single v.Null []) → ((m : List ℕ) → P (single v.Null (fault_at d.hero m hero_path ∷ []))) → ((p : Person) → Each (person_payloads p d)) → Each (first_payloads (forest (service t) (nodes_of d) query))
+  each_payload : P (single v.Null []) → ((m : List ℕ) → P (single v.Null (fault_at d.hero m hero_path ∷ []))) → ((p : Person) → Each (person_payloads p d)) → Each (inline_payloads (forest (service t) (nodes_of d) query))
   each_payload = by_cell t.hero refl
 
 -- ---- faults have a place
@@ -67,7 +67,7 @@ module _ (P : Payload → Type 0) (t : HeroTables) (d : HeroDocument) (once : Ea
 abbrev AreLocated : List Fault → Type 0
 AreLocated fs = AllByRecursion IsLocated fs
 
-located : (spot : Spot) (message : List ℕ) (path : List Key) → IsSpot spot → IsLocated (fault_at spot message path)
+pub located : (spot : Spot) (message : List ℕ) (path : List Key) → IsSpot spot → IsLocated (fault_at spot message path)
 located spot message path h = (λ e. absurd (omega (arith, e, h.0)), λ e. absurd (omega (arith, e, h.1)))
 
 cell_located : (required : Bool) (spot : Spot) (path : List Key) (c : LeafCell) → IsSpot spot → AreLocated (cell_part required spot path c).faults
@@ -82,7 +82,7 @@ both_located : (fs gs : List Fault) → AreLocated fs → AreLocated gs → AreL
 both_located [] gs h k = k
 both_located (f ∷ fs) gs h k = (h.0, both_located fs gs h.1 k)
 
-leaves_located : (p : Person) (ls : List Leaf) → ArePlaced ls → AreLocated (leaf_faults p ls)
+pub leaves_located : (p : Person) (ls : List Leaf) → ArePlaced ls → AreLocated (leaf_faults p ls)
 leaves_located p [] h = tt
 leaves_located p (l ∷ ls) h = both_located (leaf_part p l).faults (leaf_faults p ls) (cell_located (is_required l.name) l.spot (leaf_path l.name) (cell_under p l.name) h.0) (leaves_located p ls h.1)
 
@@ -119,7 +119,7 @@ person_sense true p leaves o h k = (single_sound v.Null (leaf_faults p leaves) (
 person_sense false p leaves None h k = (single_sound (v.Object (leaf_members p leaves)) (leaf_faults p leaves) (leaves_located p leaves h), tt)
 person_sense false p leaves (Some def) h k = waiting_sense p leaves def.label def.spot def.leaves h k
 
-pub hero_payloads_make_sense : (t : HeroTables) (d : HeroDocument) → EachOnce d → RefStands t → IsPlaced d → AllByRecursion IsSound (first_payloads (forest (service t) (nodes_of d) query))
+pub hero_payloads_make_sense : (t : HeroTables) (d : HeroDocument) → EachOnce d → RefStands t → IsPlaced d → AllByRecursion IsSound (inline_payloads (forest (service t) (nodes_of d) query))
 hero_payloads_make_sense t d once there placed =
     each_payload IsSound t d once there
     (single_sound v.Null [] tt)
@@ -316,7 +316,7 @@ person_shallow true p leaves o = (single_shallow v.Null (leaf_faults p leaves) (
 person_shallow false p leaves None = (single_shallow (v.Object (leaf_members p leaves)) (leaf_faults p leaves) (fields_depth p leaves), tt)
 person_shallow false p leaves (Some def) = waiting_shallow p leaves def.label def.spot def.leaves
 
-pub hero_payloads_are_shallow : (t : HeroTables) (d : HeroDocument) → EachOnce d → RefStands t → AllByRecursion (λ p. depth (payload_data p) ≤ 127) (first_payloads (forest (service t) (nodes_of d) query))
+pub hero_payloads_are_shallow : (t : HeroTables) (d : HeroDocument) → EachOnce d → RefStands t → AllByRecursion (λ p. depth (payload_data p) ≤ 127) (inline_payloads (forest (service t) (nodes_of d) query))
 hero_payloads_are_shallow t d once there =
     each_payload ShallowPayload t d once there
     (single_shallow v.Null [] (null_depth 1))

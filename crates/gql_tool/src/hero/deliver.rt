@@ -2,7 +2,7 @@
 
 ghost use Rattle.std.specs.Prelude.{◌≡◌, ◌<◌, ◌≤◌, ◌∷◌, [], IfOk, IsErrOf};
 ghost use Rattle.gql_io.specs.Faults.{Counts};
-ghost use Rattle.gql_tree.specs.FirstPayloads.{first_payloads};
+ghost use Rattle.gql_tree.specs.Inline.{inline_payloads};
 ghost use Rattle.gql_tool.specs.hero.Shape.{times};
 ghost use Rattle.gql_tool.specs.hero.Built.{regions};
 ghost use Rattle.gql_tool.specs.hero.Hero.{EachOnce, RefStands, single as single_of, announcing as announcing_of, completing as completing_of, person_payloads};
@@ -116,7 +116,7 @@ pub(crate) fn deliver<O: Sink>(
     requires once { EachOnce document.now }
     requires stands { RefStands tables.now }
     requires cut { 0 < cut }
-    ensures handed { HandedAll (first_payloads (regions tables.now document.now)) cut (O.sent output.old) (O.sent output.new) client.old client.new result }
+    ensures handed { HandedAll (inline_payloads (regions tables.now document.now)) cut (O.sent output.old) (O.sent output.new) client.old client.new result }
     ensures write_fault { Counts (O.faults output.old) (O.faults output.new) (IsErrOf result Status.WriteFault) }
 {
     match &tables.hero {

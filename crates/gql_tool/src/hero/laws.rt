@@ -3,7 +3,7 @@
 ghost use Rattle.std.specs.Prelude.{◌≡◌, ℕ, List, [], Some};
 ghost use Rattle.gql_tree.specs.declared.Value.{Value};
 ghost use Rattle.gql_tree.specs.declared.Fault.{Fault};
-ghost use Rattle.gql_tree.specs.FirstPayloads.{outcome_value};
+ghost use Rattle.gql_tree.specs.Forest.{outcome_value};
 ghost use Rattle.gql_tree.specs.Same.{SameFlat};
 ghost use Rattle.gql_tree.specs.Merged.{IsMerged};
 ghost use Rattle.gql_model.specs.Plain.{plain, kept};

@@ -4,8 +4,10 @@ use Rattle.std.proofs.lemmas.Option.{slice_get_read}
 use Rattle.gql_tree.specs.declared.Fault.{Fault}
 use Rattle.gql_tree.specs.declared.Payload.{Payload}
 use Rattle.gql_tree.specs.declared.Value.TheVariants as v
-use Rattle.gql_tree.specs.Forest.{region, branches}
-use Rattle.gql_tree.specs.FirstPayloads.{first_payload, later_payloads, group_regions}
+use Rattle.gql_tree.specs.Forest.{region, outcome_value}
+use Rattle.gql_tree.specs.Course.{course}
+use Rattle.gql_tree.specs.Payloads.{moments, next_of, payload_at, payloads_from}
+use Rattle.gql_tree.specs.Inline.{inline_times}
 use Rattle.gql_tool.specs.hero.Built.{regions}
 use Rattle.gql_tool.specs.inner.Handed.{HandedAll}
 use Rattle.gql_tool.specs.declared.hero.tables.Person.{Person}
@@ -42,4 +44,5 @@ returns-in-Ref-clause-handed g c =
 pub returns-in_err-faults-in-Error-clause-handed : goal.returns-in_err-faults-in-Error-clause-handed
 returns-in_err-faults-in-Error-clause-handed g c =
     let f = regions c.args.tables.now c.args.document.now in
-    HandedAll-none (first_payload (region f)) (later_payloads 0 (group_regions (branches f))) c.args.cut (g.O.Sink.sent c.args.output.now) c.args.client.now _ c.from_residual.ensures.1
+    let co = course (inline_times f) f in
+    HandedAll-none (payload_at co 0 (Some (outcome_value (region f).outcome)) (region f).faults (next_of co (moments co))) (payloads_from co (moments co)) c.args.cut (g.O.Sink.sent c.args.output.now) c.args.client.now _ c.from_residual.ensures.1

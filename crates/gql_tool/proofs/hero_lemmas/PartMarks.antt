@@ -1,26 +1,15 @@
 -- The marks of delivered parts: of one, and of one with another that is united at its place.
-use Rattle.std.proofs.Common.{◌≡◌, ◌↔◌, ◌⊎◌, inl, inr, zero, suc, List, [], ◌∷◌, ◌++◌, refl, sym, ◌∙◌, ap, Bool, true, false, cond, Some, None, arith}
+use Rattle.std.proofs.Common.{◌≡◌, ◌↔◌, ◌⊎◌, inl, inr, zero, suc, List, [], ◌∷◌, ◌++◌, refl, sym, ◌∙◌, ap, Some, arith}
 use Rattle.std.specs.Prelude.{Contains}
 use Rattle.gql_tree.specs.declared.path.Key.{Key}
 use Rattle.gql_tree.specs.declared.value.Value.{Value}
 use Rattle.gql_tree.specs.declared.delivery.Failure.{Failure}
 use Rattle.gql_tree.specs.declared.delivery.Fault.{Fault}
-use Rattle.gql_tree.specs.Keys.{same_key}
 use Rattle.gql_tree.specs.Flat.{Mark, flat}
 use Rattle.gql_tree.specs.Same.{SameFlat}
 use Rattle.gql_tree.specs.Union.{Marks, IsUnion, moved}
 use Rattle.gql_tree.specs.Merged.{Part, Delivery, HasMark}
-use Rattle.gql_tree.proofs.Moved.{key_same, moved-append}
-
--- what is moved stands behind the path
-moved_by : (b : Bool) (k l : Key) (ks ls : List Key) (a : Marks) (m : Mark) → same_key k l ≡ b → (moved ks a ls ≡ Some m → (q : List Key) × (ls ≡ ks ++ q) × (a q ≡ Some m)) → cond b (moved ks a ls) None ≡ Some m → (q : List Key) × (l ∷ ls ≡ k ∷ (ks ++ q)) × (a q ≡ Some m)
-moved_by true k l ks ls a m e h g = let p = h g in (p.0, (λ i. sym (key_same k l e) i ∷ p.1 i), p.2)
-moved_by false k l ks ls a m e h g = absurd (cc)
-
-pub moved_behind : (path p : List Key) (a : Marks) (m : Mark) → moved path a p ≡ Some m → (q : List Key) × (p ≡ path ++ q) × (a q ≡ Some m)
-moved_behind [] p a m h = (p, refl, h)
-moved_behind (k ∷ ks) [] a m h = absurd (cc)
-moved_behind (k ∷ ks) (l ∷ ls) a m h = moved_by (same_key k l) k l ks ls a m refl (moved_behind ks ls a m) h
+use Rattle.gql_tree.proofs.Moved.{moved-append, moved_behind}
 
 -- ---- elements of short lists
 

@@ -1,12 +1,8 @@
 -- What is delivered of a forest that makes at most one task.
-use Rattle.std.proofs.Common.{◌≡◌, ℕ, List, [], ◌∷◌, ◌++◌, refl, ◌∙◌, ap, Bool, true, false, Option, Some, None, decimal}
-use Rattle.std.specs.Prelude.{filter, flat_map, map, not, ◌&&◌, ◌||◌, cond, length, ◌==◌}
+use Rattle.std.proofs.Common.{◌≡◌, ℕ, List, [], ◌∷◌, ◌++◌, refl, ◌∙◌, ap, Bool, true, false, Option, None}
+use Rattle.std.specs.Prelude.{filter, flat_map, map, not, ◌&&◌, ◌||◌, cond, length}
 use Rattle.std.specs.List.{list_all}
 use Rattle.std.proofs.lemmas.List.{append-nil}
-use Rattle.std.proofs.lemmas.Slice.Eq.{bytes_eq-Decides}
-use Rattle.std.proofs.lemmas.Bool.Decides.{Decides-eqb}
-use Rattle.gql_tree.specs.declared.path.Key.{Key}
-use Rattle.gql_tree.specs.declared.path.Key.TheVariants.{Name, Index}
 use Rattle.gql_tree.specs.declared.value.Value.{Value}
 use Rattle.gql_tree.specs.declared.delivery.Detail.{Detail}
 use Rattle.gql_tree.specs.declared.delivery.Failure.{Failure}
@@ -16,48 +12,19 @@ use Rattle.gql_tree.specs.declared.delivery.FragId.{FragId}
 use Rattle.gql_tree.specs.declared.delivery.Row.{Row}
 use Rattle.gql_tree.specs.declared.delivery.Outcome.{Outcome}
 use Rattle.gql_tree.specs.declared.delivery.Outcome.TheVariants.{Good, Failed}
-use Rattle.gql_tree.specs.declared.delivery.Pending.{Pending}
 use Rattle.gql_tree.specs.declared.delivery.RegionResult.{RegionResult}
 use Rattle.gql_tree.specs.declared.delivery.TaskWork.TheVariants as work
-use Rattle.gql_tree.specs.Keys.{same_lists, same_key, same_fragment}
 use Rattle.gql_tree.specs.Forest.{Forest, grown, none, more}
-use Rattle.gql_tree.specs.FirstPayloads.{first_payloads}
 use Rattle.gql_tree.specs.Fate.{is_good, GroupRun, Scope, groups_of, parent_of, ancestors, above, all_good, is_ok, is_announced}
 use Rattle.gql_tree.specs.Order.{group_cmp}
 use Rattle.gql_tree.specs.Ordered.{ordered}
 use Rattle.gql_tree.specs.Merged.{Delivery, part, errors_of, delivery}
-use Rattle.gql_merge.proofs.Received.{initial_payload, later_payload, fields_entry}
-use Rattle.gql_merge.proofs.Taken.{completed}
-
-pub same_key-refl : (k : Key) → same_key k k ≡ true
-same_key-refl (Index i) = (Decides-eqb i i).1 refl
-same_key-refl (Name n) = (bytes_eq-Decides n n).1 refl
-
-same_path : (ks : List Key) → same_lists same_key ks ks ≡ true
-same_path [] = refl
-same_path (k ∷ ks) = rw (same_key-refl k, same_path ks) refl
-
-same_itself : (id : FragId) → same_fragment id id ≡ true
-same_itself id = let place : (id.place == id.place) ≡ true = (Decides-eqb id.place id.place).1 refl in rw (place, same_path id.path.keys) refl
+use Rattle.gql_confluence.proofs.Deciders.{same_fragment-refl}
 
 -- ---- one region
 
 abbrev pub alone_region : Outcome → List Fault → List Frag → RegionResult
 alone_region outcome faults fragments = record { outcome = outcome; faults = faults; fragments = fragments; groups = []; streams = [] }
-
-none_pass : {X : Type 0} (xs : List X) → filter (λ x. false) xs ≡ []
-none_pass [] = refl
-none_pass (x ∷ xs) = none_pass xs
-
-module _ (outcome : Outcome) (faults : List Fault) (fragments : List Frag) where
-  abbrev pub alone : Forest
-  alone = grown (alone_region outcome faults fragments) none
-
-  abbrev pub alone_delivery : Delivery
-  alone_delivery = record { parts = part [] (alone_region outcome faults fragments) ∷ []; lists = []; failures = [] }
-
-  pub alone_delivered : delivery alone ≡ alone_delivery
-  alone_delivered = rw (none_pass (fragments ++ [])) refl
 
 -- ---- a region and that of its one group
 
@@ -74,10 +41,6 @@ module _ (value : Value) (faults : List Fault) (id : FragId) (label : Option (Li
   abbrev pub waiting : Outcome → List Fault → Forest
   waiting outcome later = grown waiting_region (more (work.Fields (record { owners = id ∷ []; path = id.path; row = row; fields = fields })) (grown (alone_region outcome later []) none) none)
 
-  -- the announcement of its fragment
-  abbrev pub pending : Pending
-  pending = record { id = decimal 0; path = id.path; label = label }
-
   module _ (outcome : Outcome) (later : List Fault) where
     abbrev later_region : RegionResult
     later_region = alone_region outcome later []
@@ -89,12 +52,12 @@ module _ (value : Value) (faults : List Fault) (id : FragId) (label : Option (Li
     scope = record { fragments = waiting_region.fragments; groups = run ∷ [] }
 
     own_group : groups_of scope id ≡ run ∷ []
-    own_group = rw (same_itself id) refl
+    own_group = rw (same_fragment-refl id) refl
 
     outermost : above scope id ≡ []
     outermost = ap (ancestors (length scope.fragments) scope.fragments) no_parent where
       no_parent : parent_of scope.fragments id ≡ None
-      no_parent = rw (same_itself id) refl
+      no_parent = rw (same_fragment-refl id) refl
 
     ok : is_ok scope id ≡ is_good later_region && true && true
     ok = λ i. list_all (λ x. is_good x.region) (own_group i) && list_all (all_good scope) (outermost i)
@@ -134,11 +97,3 @@ module _ (value : Value) (faults : List Fault) (id : FragId) (label : Option (Li
     where
       failed_errors : errors_of (scope Failed later) id ≡ later
       failed_errors = errors Failed later ∙ append-nil later
-
-  pub good_payloads : (x : Value) (later : List Fault) → first_payloads (waiting (Good x) later)
-      ≡ initial_payload value faults (pending ∷ []) (Some true) ∷ later_payload (fields_entry (decimal 0) (record { keys = [] }) later x ∷ []) (completed pending [] ∷ []) (Some false) ∷ []
-  good_payloads x later = simp same_itself refl
-
-  pub failed_payloads : (later : List Fault) → first_payloads (waiting Failed later)
-      ≡ initial_payload value faults (pending ∷ []) (Some true) ∷ later_payload [] (completed pending later ∷ []) (Some false) ∷ []
-  failed_payloads later = simp same_itself refl
