@@ -63,7 +63,7 @@ seen_type d = record {
   values = d.values;
 }
 
--- No contract names it yet: that of the reader of schemas will.
+-- what the reader of schemas promises of the schema that it gives
 abbrev pub seen_schema : Schema → SeenSchema
 seen_schema s = record {
   types = map seen_type s.types;
