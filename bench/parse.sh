@@ -39,11 +39,11 @@ measure() {
 import os, subprocess, sys, time
 program, document, least = sys.argv[1:]
 
-KEEPING = dict(os.environ, MALLOC_TRIM_THRESHOLD_='268435456', MALLOC_MMAP_THRESHOLD_='268435456')
+KEEPING = dict(os.environ, MALLOC_TRIM_THRESHOLD_='268435456', MALLOC_MMAP_THRESHOLD_='268435456', GLIBC_TUNABLES='glibc.malloc.tcache_count=1000')
 
 def run(name, times, env=None):
     start = time.perf_counter()
-    subprocess.run([program, name, str(times)], check=True, stdout=subprocess.DEVNULL, env=env)
+    subprocess.run([program, 'document', name, str(times)], check=True, stdout=subprocess.DEVNULL, env=env)
     return time.perf_counter() - start
 
 def best(name, times, env=None):
@@ -51,7 +51,7 @@ def best(name, times, env=None):
 
 # the most that the process held, looked at until it ends; what wait4 tells has what Python held before it became the program
 def held(name):
-    child = subprocess.Popen([program, name, '5'], stdout=subprocess.DEVNULL)
+    child = subprocess.Popen([program, 'document', name, '5'], stdout=subprocess.DEVNULL)
     most = 0
     while child.poll() is None:
         with open(f'/proc/{child.pid}/status') as status:

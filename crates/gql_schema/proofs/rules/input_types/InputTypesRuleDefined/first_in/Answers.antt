@@ -1,0 +1,8 @@
+use Rattle.std.proofs.Common.{map}
+use Rattle.gql_model.specs.rules.TypeParts.{has_kind, is_composite}
+use Rattle.gql_schema.specs.Seen.{defined}
+use Rattle.gql_schema.proofs.Names.{all_input_types}
+use Rattle.gql_schema.proofs.rules.input_types.InputTypesRuleDefined.first_in.Goals as goal
+
+pub returns : goal.returns
+returns c = let e = all_input_types (λ n. has_kind (map defined c.args.self.now.types.now) is_composite n.name) c.args.of.now.fields.now c.args.of.now.inputs.now in cc

@@ -1,0 +1,14 @@
+use Rattle.std.proofs.Common.{ap, ◌∙◌, map, flat_map}
+use Rattle.gql_schema.specs.Seen.{defined}
+use Rattle.gql_schema.specs.FirstPlace.{first_place}
+use Rattle.gql_schema.proofs.Walking.{typewise}
+use Rattle.gql_model.specs.rules.Places.{faults}
+use Rattle.gql_model.specs.rules.TypeParts as parts
+use Rattle.gql_model.specs.rules.TypeParts.{has_kind, is_input}
+use Rattle.gql_model.specs.rules.types.OutputTypes.{field_types}
+use Rattle.gql_schema.proofs.rules.output_types.input_given_out.Goals as goal
+
+pub returns : goal.returns
+returns c =
+    let P = λ (d : parts.Defined). faults (λ n. has_kind (map defined c.args.types.now) is_input n.name) (field_types d) in
+    c.first_among.ensures ∙ ap (λ ts. first_place (flat_map (λ of. P (defined of)) ts)) c.as_slice.ensures.now ∙ typewise P c.args.types.now

@@ -1,0 +1,6 @@
+use Rattle.gql_model.specs.rules.types.ReservedNames.{is_reserved}
+use Rattle.gql_schema.proofs.Names.{type_names}
+use Rattle.gql_schema.proofs.rules.reserved_names.ReservedNamesRuleDefined.first_in.Goals as goal
+
+pub returns : goal.returns
+returns c = let e = type_names is_reserved c.args.of.now in cc
